@@ -1,0 +1,4 @@
+pub mod Answered
+pub mod Restarting
+pub mod Stores
+pub mod Tested

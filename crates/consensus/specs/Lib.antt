@@ -1,0 +1,11 @@
+pub mod Choice
+pub mod Room
+pub mod Layout
+pub mod Enough
+pub mod WellKept
+pub mod Events
+pub mod Answers
+pub mod OnSlot
+pub mod Step
+pub mod StepLaws
+pub mod Cases
