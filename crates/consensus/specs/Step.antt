@@ -13,6 +13,7 @@ use Rattle.consensus.specs.declared.Answer.the-variants.{Quiet, BadTable
 use Rattle.consensus.specs.declared.Outcome.{Outcome}
 use Rattle.consensus.specs.declared.Outcome.the-variants.{Becomes, Refused}
 use Rattle.consensus.specs.Choice.{if_then_else_}
+use Rattle.consensus.specs.Room.{agreed}
 use Rattle.consensus.specs.Layout.{slots, tableSize, headOf, roomAt, withRoom}
 use Rattle.consensus.specs.WellKept.{savedKept, wellKept}
 use Rattle.consensus.specs.Events.{restart, eventOk}
@@ -28,6 +29,10 @@ unfoldable pub tableOk : List ℕ → Bool
 tableOk t =
     eqb (length t) tableSize && leb 1 (headOf t .boxes) && leb (headOf t .boxes) maxBoxes
     && ltb (headOf t .index) (headOf t .boxes)
+
+-- what a slot of a good table has agreed: zero for nothing, and where there is no such slot
+unfoldable pub agreedAt : List ℕ → ℕ → ℕ
+agreedAt t s = if tableOk t && ltb s slots then agreed (roomAt t s) else 0
 
 -- a refusal leaves all as it was
 abbrev pub refuse : List ℕ → Answer → Stepped

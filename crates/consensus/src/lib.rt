@@ -6,6 +6,7 @@ use ballots::Slot;
 use events::RESTART;
 use events::event_ok;
 use kept::well_kept;
+use layout::SLOTS;
 use layout::TABLE_SIZE;
 use layout::head_of;
 use layout::put_room;
@@ -16,7 +17,7 @@ ghost use mathlib.Core.Path.{_≡_};
 ghost use Prim.Native.Nat.{_<_, _≤_};
 ghost use lib.ListN.{length};
 ghost use Rattle.consensus.specs.Layout.{slots, tableSize, headOf};
-ghost use Rattle.consensus.specs.Step.{tableOk, onEvent, step};
+ghost use Rattle.consensus.specs.Step.{tableOk, agreedAt, onEvent, step};
 
 mod events; // events.rt: when an event keeps the rules
 mod kept; // kept.rt: when a slot is well kept
@@ -94,7 +95,7 @@ pub enum Outcome {
 }
 
 // A table of the right length, with a box count from 1 to 7 and an index below it.
-fn table_ok(table: &[u64]) -> bool
+pub fn table_ok(table: &[u64]) -> bool
     ensures { λ r. ⌜ r ≡ tableOk (now (table .entry)) ⌝ }
 {
     if table.len() != TABLE_SIZE {
@@ -102,6 +103,20 @@ fn table_ok(table: &[u64]) -> bool
     }
     let head = head_of(table);
     (1 <= head.boxes) & (head.boxes <= MAX_BOXES) & (head.index < head.boxes)
+}
+
+// What a slot has agreed: zero for nothing, and where the table is bad or has no such slot.
+pub fn agreed_at(table: &[u64], slot: Slot) -> u64
+    ensures { λ r. ⌜ r ≡ agreedAt (now (table .entry)) (slot .0) ⌝ }
+{
+    if !table_ok(table) {
+        return 0;
+    }
+    if SLOTS <= slot.0 {
+        return 0;
+    }
+    let room = room_at(table, slot);
+    room.agreed
 }
 
 // An event that names a slot: refused, with nothing written, where the slot is not well kept or the event is not for it.
