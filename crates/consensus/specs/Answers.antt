@@ -1,8 +1,8 @@
 -- The rules' number and the seven message numbers of each answer.
 -- Cited by the cases and by whoever turns an answer into numbers.
 use Prim.Native.Nat.{ℕ}
-use mathlib.Core.List.{List, [], _∷_, _++_}
-use lib.ListN.{replicate}
+use mathlib.Core.List.{List, [], _∷_}
+use lib.ListN.{getD, replicate}
 use Rattle.consensus.specs.declared.Event.{Event}
 use Rattle.consensus.specs.declared.Message.{Message}
 use Rattle.consensus.specs.declared.Answer.{Answer}
@@ -31,3 +31,7 @@ numbersOf NotAwaited = 4 ∷ noMessage
 numbersOf AlreadyAgreed = 5 ∷ noMessage
 numbersOf OtherAgreed = 6 ∷ noMessage
 numbersOf NoBallotLeft = 7 ∷ noMessage
+
+-- the answer's number alone
+abbrev pub answerNumber : Answer → ℕ
+answerNumber a = getD (numbersOf a) 0 0

@@ -5,7 +5,6 @@ use mathlib.Core.Bool.{Bool, true, _&&_, _||_, not}
 use mathlib.Core.List.{List, [], _∷_}
 use lib.Dec.{leb, ltb, eqb}
 use lib.ListN.{length, getD}
-use Rattle.ballots.specs.declared.Slot.{Slot}
 use Rattle.ballots.specs.Ballot.{isBallot, noneOrBallot, makerOf}
 use Rattle.consensus.specs.declared.Event.{Event}
 use Rattle.consensus.specs.Choice.{if_then_else_}

@@ -1,8 +1,8 @@
 -- What each kind of event does to its slot: one definition for each bullet of the rules' step.
 -- h is the box's head, r the slot's room, e an event that keeps the rules. Cited by the step on tables.
 use Prim.Native.Nat.{ℕ, max}
-use mathlib.Core.Bool.{Bool, not, _&&_, _||_}
-use lib.Dec.{leb, ltb, eqb}
+use mathlib.Core.Bool.{Bool, not, _&&_}
+use lib.Dec.{ltb, eqb}
 use Rattle.ballots.specs.Ballot.{maxX, nextX, nextBallot}
 use Rattle.ballots.specs.Boxes.{holdsBox, withBox}
 use Rattle.consensus.specs.declared.Head.{Head}
@@ -14,7 +14,7 @@ use Rattle.consensus.specs.declared.Answer.the-variants.{Quiet, Sends, N
 use Rattle.consensus.specs.declared.Outcome.{Outcome}
 use Rattle.consensus.specs.declared.Outcome.the-variants.{Becomes, Refused}
 use Rattle.consensus.specs.Choice.{if_then_else_}
-use Rattle.consensus.specs.Room.{promised, acceptedBallot, acceptedValue, phase, ownBallot, ownValue, bestBallot, bestValue, lasts, accepts, agreed, idle, collecting, begun, vote, saved, round, room, noVote, noRound}
+use Rattle.consensus.specs.Room.{promised, acceptedBallot, acceptedValue, phase, ownBallot, ownValue, bestBallot, lasts, accepts, agreed, idle, collecting, begun, vote, saved, round, room, noVote, noRound}
 use Rattle.consensus.specs.Enough.{enoughToCollect, enoughToBegin}
 use Rattle.consensus.specs.Events.{propose, collect, last, begin, accept, success, oldRound, event}
 

@@ -6,7 +6,6 @@ use mathlib.Core.List.{List}
 use lib.Dec.{leb, ltb, eqb}
 use lib.ListN.{length}
 use Rattle.ballots.specs.Ballot.{maxBoxes}
-use Rattle.consensus.specs.declared.Head.{Head}
 use Rattle.consensus.specs.declared.Event.{Event}
 use Rattle.consensus.specs.declared.Answer.{Answer}
 use Rattle.consensus.specs.declared.Answer.the-variants.{Quiet, BadTable, BadEvent, NotWellKept}

@@ -9,28 +9,35 @@ use lib.Dec.{ltb}
 use lib.ListN.{length, getD}
 use borrow.Author.Tests.{eqb-true, leb-true, ltb-true}
 use Rattle.ballots.specs.Ballot.{maxBoxes}
+use Rattle.consensus.specs.declared.Head.{Head}
 use Rattle.consensus.specs.declared.Event.{Event}
 use Rattle.consensus.specs.Layout.{slots, tableSize, headOf}
 use Rattle.consensus.specs.Events.{restart, used, fieldOk, kindOk, fieldsOk, eventOk}
 use Rattle.consensus.specs.Step.{tableOk}
 
-pub record TableParts (t : List ℕ) : Type 0 where
-  pub long : length t ≡ tableSize
-  pub some-boxes : 1 ≤ headOf t .boxes
-  pub few-boxes : headOf t .boxes ≤ maxBoxes
-  pub index-below : headOf t .index < headOf t .boxes
+-- "N (1 to 7)", "the box's own index (0 to N-1)"
+pub record HeadKept (h : Head) : Type 0 where
+  pub some-boxes : 1 ≤ h .boxes
+  pub few-boxes : h .boxes ≤ maxBoxes
+  pub index-below : h .index < h .boxes
 
-pub table-parts : (t : List ℕ) → tableOk t ≡ true → TableParts t
+pub record TableKept (t : List ℕ) : Type 0 where
+  pub whole : length t ≡ tableSize
+  pub head-kept : HeadKept (headOf t)
+
+pub table-clauses : (t : List ℕ) → tableOk t ≡ true → TableKept t
 unfolding tableOk
-table-parts t e =
+table-clauses t e =
     let a = and-eq-true-iff _ _ .0 e in
     let b = and-eq-true-iff _ _ .0 (a .0) in
     let c = and-eq-true-iff _ _ .0 (b .0) in
     record {
-      long = eqb-true _ _ (c .0);
-      some-boxes = leb-true _ _ (c .1);
-      few-boxes = leb-true _ _ (b .1);
-      index-below = ltb-true _ _ (a .1);
+      whole = eqb-true _ _ (c .0);
+      head-kept = record {
+        some-boxes = leb-true _ _ (c .1);
+        few-boxes = leb-true _ _ (b .1);
+        index-below = ltb-true _ _ (a .1);
+      };
     }
 
 -- every row of the table but the last uses the slot
@@ -49,9 +56,10 @@ first-of-five : (a b c d f : Bool) → a && b && c && d && f ≡ true → a ≡ 
 first-of-five true b c d f e = refl
 first-of-five false b c d f e = e
 
-pub named-slot : (n : ℕ) (e : Event) → eventOk n e ≡ true → (e .kind ≡ restart → ⊥) → e .slot .0 < slots
+-- every kind but Restart names a slot
+pub names-a-slot : (n : ℕ) (e : Event) → eventOk n e ≡ true → (e .kind ≡ restart → ⊥) → e .slot .0 < slots
 unfolding eventOk kindOk fieldsOk fieldOk
-named-slot n e ok other =
+names-a-slot n e ok other =
     let parts = and-eq-true-iff _ _ .0 (and-eq-true-iff _ _ .0 ok .0) in
     let kind = and-eq-true-iff _ _ .0 (parts .0) in
     let from-one : 1 ≤ e .kind = leb-true _ _ (kind .0) in

@@ -5,7 +5,7 @@ use borrow.Author.Tests.{lt-ltb, le-ltb}
 use Rattle.consensus.specs.declared.Room.{Room}
 use Rattle.consensus.specs.Room.{agreed}
 use Rattle.consensus.specs.Step.{agreedAt}
-use Rattle.consensus.specs.StepLaws.{table-parts}
+use Rattle.consensus.specs.StepLaws.{table-clauses}
 use Rattle.consensus.proofs.Tested.{failed, passed}
 use Rattle.consensus.proofs.agreed_at.Statement.{statement}
 use Rattle.consensus.proofs.agreed_at.Tie as tie
@@ -26,7 +26,7 @@ returns-2 c =
 room-at-requires : tie.Need-room-at-requires
 room-at-requires c κs =
     let d = c .before .before in
-    (table-parts _ (passed (d .before .table-ok .ensures) (d .if1 .left)) .long, c .if2 .left)
+    (table-clauses _ (passed (d .before .table-ok .ensures) (d .if1 .left)) .whole, c .if2 .left)
 
 returns-3 : tie.Need-returns-3
 unfolding agreedAt

@@ -1,6 +1,6 @@
 -- `step` meets its contract: the tests pick the case of the definition.
 use native.Mathlib.Omega.{arith}
-use Rattle.consensus.specs.StepLaws.{table-parts, named-slot}
+use Rattle.consensus.specs.StepLaws.{table-clauses, names-a-slot}
 use Rattle.consensus.proofs.Answered.{bad-table, bad-event, restarts, acts, gives-as}
 use Rattle.consensus.proofs.Tested.{failed, passed}
 use borrow.Author.Needs.{needs}
@@ -20,7 +20,7 @@ returns c =
 
 head-of-requires : tie.Need-head-of-requires
 head-of-requires c κs =
-    let parts = table-parts _ (passed (c .before .before .table-ok .ensures) (c .before .if1 .left)) in
+    let parts = table-clauses _ (passed (c .before .before .table-ok .ensures) (c .before .if1 .left)) in
     omega arith
 
 event-ok-requires : tie.Need-event-ok-requires
@@ -41,7 +41,7 @@ returns-2 c =
 on-restart-requires : tie.Need-on-restart-requires
 on-restart-requires c κs =
     let d = c .before .before .before .before .before .before .before in
-    table-parts _ (passed (d .before .table-ok .ensures) (d .if1 .left)) .long
+    table-clauses _ (passed (d .before .table-ok .ensures) (d .if1 .left)) .whole
 
 same-length-3 : tie.Need-same-length-3
 same-length-3 c = search needs
@@ -65,8 +65,8 @@ on-event-requires c κs =
     let g = c .before .before .before in
     let h = g .before .before in
     let k = h .before .before .before in
-    let parts = table-parts _ (passed (k .table-ok .ensures) (h .before .before .if1 .left)) in
-    (parts .long, named-slot _ _ (passed (g .before .event-ok .ensures) (g .if2 .left)) (c .before .if3 .left), omega arith)
+    let parts = table-clauses _ (passed (k .table-ok .ensures) (h .before .before .if1 .left)) in
+    (parts .whole, names-a-slot _ _ (passed (g .before .event-ok .ensures) (g .if2 .left)) (c .before .if3 .left), omega arith)
 
 same-length-4 : tie.Need-same-length-4
 same-length-4 c = search needs

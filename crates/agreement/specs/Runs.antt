@@ -1,0 +1,110 @@
+-- Runs of boxes: worlds, the calls that may be made in them, and what can be seen of a box.
+-- Over any step function, so that the promises can be asked of a wrong one too. Cited by every promise.
+use Prim.Native.Nat.{ℕ, _<_}
+use mathlib.Core.Path.{_≡_}
+use mathlib.Core.Bool.{cond}
+use mathlib.Core.Logic.{_⊎_}
+use mathlib.Core.List.{List, [], _∷_}
+use lib.Dec.{eqb}
+use Rattle.consensus.specs.declared.Event.{Event}
+use Rattle.consensus.specs.declared.Message.{Message}
+use Rattle.consensus.specs.declared.Answer.{Answer}
+use Rattle.consensus.specs.declared.Answer.the-variants.{Quiet, Sends, BadTable, BadEvent, NotWellKept, NotAwaited, AlreadyAgreed, OtherAgreed, NoBallotLeft}
+use Rattle.consensus.specs.Room.{agreed, promised}
+use Rattle.consensus.specs.Layout.{fresh, roomAt}
+use Rattle.consensus.specs.Events.{propose, restart}
+use Rattle.consensus.specs.Answers.{answerNumber}
+use Rattle.consensus.specs.OnSlot.{allBoxes}
+use Rattle.consensus.specs.Step.{Stepped}
+
+-- a box's table and an event give the new table and an answer
+abbrev pub StepFunction : Type 0
+StepFunction = List ℕ → Event → Stepped
+
+-- a table for each box, and every message ever put out: messages stay, so that late, lost and repeated are all there
+pub record World : Type 0 where
+  pub tables : ℕ → List ℕ
+  pub parcels : List Message
+
+-- all boxes fresh, with the same box count and each its own index
+abbrev pub start : ℕ → World
+start n = record { tables = λ i. fresh n i; parcels = [] }
+
+-- m is among the messages
+abbrev pub Among : Message → List Message → Type 0
+Among m [] = ⊥
+Among m (p ∷ ps) = (m ≡ p) ⊎ Among m ps
+
+-- from outside comes any Propose or Restart, with any fields
+abbrev pub Outside : Event → Type 0
+Outside e = (e .kind ≡ propose) ⊎ (e .kind ≡ restart)
+
+-- delivered is a message that an earlier call put out, to this box or to all
+pub record Delivered (w : World) (i : ℕ) (e : Event) : Type 0 where
+  pub message : Message
+  pub put-out : Among message (w .parcels)
+  pub carried : message .event ≡ e
+  pub addressed : (message .to ≡ i) ⊎ (message .to ≡ allBoxes)
+
+-- the messages with the one that an answer puts out
+abbrev pub withMessage : Answer → List Message → List Message
+withMessage Quiet ps = ps
+withMessage (Sends m) ps = m ∷ ps
+withMessage BadTable ps = ps
+withMessage BadEvent ps = ps
+withMessage NotWellKept ps = ps
+withMessage NotAwaited ps = ps
+withMessage AlreadyAgreed ps = ps
+withMessage OtherAgreed ps = ps
+withMessage NoBallotLeft ps = ps
+
+-- t at box i, and the other boxes as they were
+abbrev pub withTable : (ℕ → List ℕ) → ℕ → List ℕ → ℕ → List ℕ
+withTable tables i t j = cond (eqb j i) t (tables j)
+
+module _ (f : StepFunction) where
+  -- what a call with e at box i answers, and the world after it
+  abbrev pub answerTo : World → ℕ → Event → Answer
+  answerTo w i e = f (w .tables i) e .answer
+
+  abbrev pub after : World → ℕ → Event → World
+  after w i e = record {
+    tables = withTable (w .tables) i (f (w .tables i) e .table);
+    parcels = withMessage (answerTo w i e) (w .parcels);
+  }
+
+-- a call that a run of n boxes may make in world w: with e at box i, from outside or delivered
+pub record MayCall (n : ℕ) (w : World) (i : ℕ) (e : Event) : Type 0 where
+  pub a-box : i < n
+  pub source : Outside e ⊎ Delivered w i e
+
+infixl 10 _and-then_
+-- a run of n boxes from one world to another, call after call
+pub data Run (f : StepFunction) (n : ℕ) (w : World) : World → Type 0 where
+  still : Run f n w w
+  _and-then_ : {u : World} {i : ℕ} {e : Event} → Run f n w u → MayCall n u i e → Run f n w (after f u i e)
+
+-- the call with e at box i in world w is a Propose of v for slot s, and answers 0
+pub record ProposesFor (f : StepFunction) (w : World) (i : ℕ) (e : Event) (s v : ℕ) : Type 0 where
+  pub a-propose : e .kind ≡ propose
+  pub for-slot : e .slot .0 ≡ s
+  pub its-value : e .value ≡ v
+  pub answered : answerNumber (answerTo f w i e) ≡ 0
+
+-- some call of the run proposed v for slot s
+abbrev pub ProposedIn : {f : StepFunction} {n : ℕ} {w u : World} → Run f n w u → ℕ → ℕ → Type 0
+ProposedIn still s v = ⊥
+ProposedIn {f} (_and-then_ {u = u} {i = i} {e = e} run may) s v = ProposedIn run s v ⊎ ProposesFor f u i e s v
+
+-- some call of the run restarted box j
+abbrev pub RestartedIn : {f : StepFunction} {n : ℕ} {w u : World} → Run f n w u → ℕ → Type 0
+RestartedIn still j = ⊥
+RestartedIn (_and-then_ {i = i} {e = e} run may) j = RestartedIn run j ⊎ ((e .kind ≡ restart) × (i ≡ j))
+
+-- what a box says of a slot: its agreed value, zero for nothing
+abbrev pub says : World → ℕ → ℕ → ℕ
+says w i s = agreed (roomAt (w .tables i) s)
+
+-- what a box has promised in a slot
+abbrev pub hasPromised : World → ℕ → ℕ → ℕ
+hasPromised w i s = promised (roomAt (w .tables i) s)
