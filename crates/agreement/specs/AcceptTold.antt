@@ -21,7 +21,7 @@ use Rattle.step_laws.specs.AwaitedLaws.{Awaited, awaited-clauses, counted-are-b
 use Rattle.agreement.specs.Ledger.{Ledger, Said, voted}
 use Rattle.agreement.specs.Majorities.{In, enough-begins, counted-all}
 use Rattle.agreement.specs.BoxTold.{Agreed, BegunTold, Situation, Told}
-use Rattle.agreement.specs.BoxLaws.{idle-told, unmoved, refused}
+use Rattle.agreement.specs.BoxLaws.{idle-told, unmoved, refused, heard}
 
 module _ (h : Head) (r : Room) (e : Event) (l : Ledger) (kind : e .kind ≡ accept) (here : Situation h r e l) (mine : Awaited r e begunPhase (accepts r)) where
   abbrev counted : ℕ
@@ -33,7 +33,7 @@ module _ (h : Head) (r : Room) (e : Event) (l : Ledger) (kind : e .kind ≡ acce
   all-voted : (a : ℕ) → In a counted → Said (voted a (ownBallot r)) l
   all-voted =
       counted-all (λ (a : ℕ). Said (voted a (ownBallot r)) l) (accepts r) (e .from)
-      (subst⁻¹ (λ (b : ℕ). Said (voted (e .from) b) l) (mine .own-round) (here .event-told .accept-voted kind))
+      (subst⁻¹ (λ (b : ℕ). Said (voted (e .from) b) l) (mine .own-round) (heard h r e l kind here))
       (told .counted-voted)
 
   are-boxes : counted < 2 ^ h .boxes
@@ -60,13 +60,7 @@ module _ (h : Head) (r : Room) (e : Event) (l : Ledger) (kind : e .kind ≡ acce
     agreed-told =
         unmoved _ _ l r e _ _
         (idle-told _ _ l (r .saved) (ownValue r) (here .room-told .saved-lasts) (λ some. chosen))
-        (record {
-          collect-opened = λ k. absurd (omega arith);
-          last-reported = λ k. absurd (omega arith);
-          begin-begun = λ k. absurd (omega arith);
-          accept-voted = λ k. absurd (omega arith);
-          success-agreed = λ k. chosen;
-        })
+        (chosen)
 
 pub accept-told : (h : Head) (r : Room) (e : Event) (l : Ledger) → e .kind ≡ accept → Situation h r e l → Told h r e l (onAccept h r e)
 unfolding onAccept

@@ -21,7 +21,7 @@ use Rattle.agreement.specs.Update.{update-same}
 use Rattle.agreement.specs.Ledger.{Lasting, Ledger, Said, proposed, begun, voted, afterVote, votes, stays, moves}
 use Rattle.agreement.specs.LedgerLaws.{said-before}
 use Rattle.agreement.specs.BoxTold.{Situation, Told}
-use Rattle.agreement.specs.BoxLaws.{same-round}
+use Rattle.agreement.specs.BoxLaws.{same-round, heard}
 use Rattle.agreement.specs.CollectTold.{tooOld-told}
 
 module _ (h : Head) (r : Room) (e : Event) (l : Ledger) (kind : e .kind ≡ begin) (here : Situation h r e l) (reach : promised r ≤ e .ballot .0) where
@@ -42,7 +42,7 @@ module _ (h : Head) (r : Room) (e : Event) (l : Ledger) (kind : e .kind ≡ begi
         next = l′;
         moved =
             moves
-            (votes (e .ballot .0) (e .value) (here .event-told .begin-begun kind)
+            (votes (e .ballot .0) (e .value) (heard h r e l kind here)
             (subst⁻¹ (λ (x : Lasting). x .promise ≤ e .ballot .0) (here .room-told .saved-lasts) reach)
             (ballot-not-zero (h .boxes) (e .ballot .0) (begin-clauses (h .boxes) e kind (here .event-ok) .some-ballot)))
             stays;
@@ -50,13 +50,7 @@ module _ (h : Head) (r : Room) (e : Event) (l : Ledger) (kind : e .kind ≡ begi
             same-round l l′ (λ f said. inr said) (h .boxes) (h .index) r _ (λ p w. none-begun _ w)
             (update-same (l .box) (h .index) _)
             (here .room-told);
-        answer-told = record {
-          collect-opened = λ k. absurd (omega arith);
-          last-reported = λ k. absurd (omega arith);
-          begin-begun = λ k. absurd (omega arith);
-          accept-voted = λ k. inl refl;
-          success-agreed = λ k. absurd (omega arith);
-        };
+        answer-told = inl refl;
         proposals = λ v said. inl (before v said);
       }
 

@@ -1,10 +1,13 @@
 -- What stays told: facts are only added, so what a room and a message say stays told, and other boxes' moves take nothing away.
 -- Relies on BoxTold and the laws of moves. Cited by the laws of each kind of event and by the laws of runs.
 use Prim.Native.Nat.{ℕ}
-use mathlib.Core.Path.{_≡_, sym, _∙_}
+use mathlib.Core.Path.{_≡_, sym, _∙_, subst}
+use mathlib.Core.Bool.{Bool, true, false, cond}
 use mathlib.Core.Logic.{_≢_, inl}
 use native.Mathlib.Omega.{arith}
+use lib.Dec.{eqb}
 use Rattle.ballots.specs.Ballot.{makerOf}
+use Rattle.consensus.specs.declared.Head.{Head}
 use Rattle.consensus.specs.declared.Saved.{Saved}
 use Rattle.consensus.specs.declared.Round.{Round}
 use Rattle.consensus.specs.declared.Room.{Room}
@@ -12,16 +15,22 @@ use Rattle.consensus.specs.declared.Event.{Event}
 use Rattle.consensus.specs.declared.Answer.{Answer}
 use Rattle.consensus.specs.declared.Outcome.the-variants.{Becomes, Refused}
 use Rattle.consensus.specs.Room.{phase, ownBallot, agreed, collecting, room, noRound}
+use Rattle.consensus.specs.Events.{collect, last, begin, accept, success}
 use Rattle.agreement.specs.Ledger.{Ledger, Said, _⊑_, begun, stays}
 use Rattle.agreement.specs.LedgerLaws.{report-lasts}
 use Rattle.agreement.specs.LedgerMoves.{Frame}
 use Rattle.agreement.specs.LedgerAgrees.{chosen-lasts}
 use Rattle.agreement.specs.Majorities.{In, BeginSet}
-use Rattle.agreement.specs.BoxTold.{lastingOf, Agreed, CollectingTold, BegunTold, RoomTold, EventTold, AnswerTold, OutcomeTold}
+use Rattle.agreement.specs.BoxTold.{lastingOf, Agreed, CollectingTold, BegunTold, RoomTold, EventTold, AnswerTold, OutcomeTold, ToldBy, Situation}
 
 -- nothing is begun at b that was not begun before
 abbrev pub BeginsNone : Ledger → Ledger → ℕ → Type 0
 BeginsNone l l′ b = (w : ℕ) → Said (begun b w) l′ → Said (begun b w) l
+
+-- from each of two, whichever the test picks
+either : {A B C D : Type 0} (t : Bool) → (A → C) → (B → D) → cond t A B → cond t C D
+either true f g = f
+either false f g = g
 
 module _ (l l′ : Ledger) (more : l ⊑ l′) where
   pub agreed-lasts : (n v : ℕ) → Agreed n l v → Agreed n l′ v
@@ -45,14 +54,12 @@ module _ (l l′ : Ledger) (more : l ⊑ l′) where
       }
 
   pub event-lasts : (n : ℕ) (e : Event) → EventTold n l e → EventTold n l′ e
-  event-lasts n e told =
-      record {
-        collect-opened = λ k. more _ (told .collect-opened k);
-        last-reported = λ k. more _ (told .last-reported k);
-        begin-begun = λ k. more _ (told .begin-begun k);
-        accept-voted = λ k. more _ (told .accept-voted k);
-        success-agreed = λ k. agreed-lasts n (e .value) (told .success-agreed k);
-      }
+  event-lasts n e =
+      either (eqb (e .kind) collect) (more _)
+      (either (eqb (e .kind) last) (more _)
+      (either (eqb (e .kind) begin) (more _)
+      (either (eqb (e .kind) accept) (more _)
+      (either (eqb (e .kind) success) (agreed-lasts n (e .value)) (λ none. none)))))
 
   -- a room with other saved numbers and the same round
   pub same-round :
@@ -94,3 +101,7 @@ unmoved n i l r e r′ a told says = record { next = l; moved = stays; room-told
 
 pub refused : (n i : ℕ) (l : Ledger) (r : Room) (e : Event) (a : Answer) → RoomTold n i l r → AnswerTold n l a → OutcomeTold n i l r e (Refused a)
 refused n i l r e a told says = record { next = l; moved = stays; room-told = told; answer-told = says; proposals = λ v said. inl said }
+
+-- what the event of a call of kind k says was said
+pub heard : (h : Head) (r : Room) (e : Event) (l : Ledger) {k : ℕ} → e .kind ≡ k → Situation h r e l → ToldBy (h .boxes) l k e
+heard h r e l kind here = subst (λ (k : ℕ). ToldBy (h .boxes) l k e) kind (here .event-told)

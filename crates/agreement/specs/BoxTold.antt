@@ -4,6 +4,7 @@ use Prim.Native.Nat.{ℕ}
 use mathlib.Core.Path.{_≡_}
 use mathlib.Core.Bool.{true}
 use mathlib.Core.Logic.{_≢_, _⊎_}
+use lib.Dec.{eqb}
 use Rattle.ballots.specs.Ballot.{makerOf}
 use Rattle.consensus.specs.declared.Head.{Head}
 use Rattle.consensus.specs.declared.Round.{Round}
@@ -14,6 +15,7 @@ use Rattle.consensus.specs.declared.Answer.{Answer}
 use Rattle.consensus.specs.declared.Answer.the-variants.{Quiet, Sends, BadTable, BadEvent, NotWellKept, NotAwaited, AlreadyAgreed, OtherAgreed, NoBallotLeft}
 use Rattle.consensus.specs.declared.Outcome.{Outcome}
 use Rattle.consensus.specs.Room.{promised, acceptedBallot, acceptedValue, phase, agreed, collecting, begun as begunPhase}
+use Rattle.consensus.specs.Choice.{if_then_else_}
 use Rattle.consensus.specs.WellKept.{wellKept}
 use Rattle.consensus.specs.Events.{propose, collect, last, begin, accept, success, eventOk}
 use Rattle.step_laws.specs.HeadLaws.{HeadKept}
@@ -51,13 +53,18 @@ pub record RoomTold (n i : ℕ) (l : Ledger) (r : Room) : Type 0 where
   pub begun-told : phase r ≡ begunPhase → BegunTold l (r .round)
   pub agreed-told : agreed r ≢ 0 → Agreed n l (agreed r)
 
--- a message's event says what was said
-pub record EventTold (n : ℕ) (l : Ledger) (e : Event) : Type 0 where
-  pub collect-opened : e .kind ≡ collect → Said (opened (e .ballot .0)) l
-  pub last-reported : e .kind ≡ last → Said (reported (e .from) (e .ballot .0) (e .second .0) (e .value)) l
-  pub begin-begun : e .kind ≡ begin → Said (begun (e .ballot .0) (e .value)) l
-  pub accept-voted : e .kind ≡ accept → Said (voted (e .from) (e .ballot .0)) l
-  pub success-agreed : e .kind ≡ success → Agreed n l (e .value)
+-- what an event of kind k says was said
+abbrev pub ToldBy : ℕ → Ledger → ℕ → Event → Type 0
+ToldBy n l k e =
+    if eqb k collect then Said (opened (e .ballot .0)) l
+    else if eqb k last then Said (reported (e .from) (e .ballot .0) (e .second .0) (e .value)) l
+    else if eqb k begin then Said (begun (e .ballot .0) (e .value)) l
+    else if eqb k accept then Said (voted (e .from) (e .ballot .0)) l
+    else if eqb k success then Agreed n l (e .value)
+    else Unit {0}
+
+abbrev pub EventTold : ℕ → Ledger → Event → Type 0
+EventTold n l e = ToldBy n l (e .kind) e
 
 abbrev pub AnswerTold : ℕ → Ledger → Answer → Type 0
 AnswerTold n l Quiet = Unit {0}

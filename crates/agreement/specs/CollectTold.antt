@@ -19,18 +19,12 @@ use Rattle.agreement.specs.Update.{update-same}
 use Rattle.agreement.specs.Ledger.{Lasting, Ledger, Said, proposed, reported, begun, promising, afterReport, reports, stays, moves}
 use Rattle.agreement.specs.LedgerLaws.{said-before}
 use Rattle.agreement.specs.BoxTold.{Situation, Told}
-use Rattle.agreement.specs.BoxLaws.{same-round, unmoved}
+use Rattle.agreement.specs.BoxLaws.{same-round, unmoved, heard}
 
 -- OldRound tells nothing
 pub tooOld-told : (h : Head) (r : Room) (e : Event) (l : Ledger) → Situation h r e l → Told h r e l (tooOld h r e)
 tooOld-told h r e l here =
-    unmoved (h .boxes) (h .index) l r e r _ (here .room-told) (record {
-      collect-opened = λ k. absurd (omega arith);
-      last-reported = λ k. absurd (omega arith);
-      begin-begun = λ k. absurd (omega arith);
-      accept-voted = λ k. absurd (omega arith);
-      success-agreed = λ k. absurd (omega arith);
-    })
+    unmoved (h .boxes) (h .index) l r e r _ (here .room-told) tt
 
 module _ (h : Head) (r : Room) (e : Event) (l : Ledger) (kind : e .kind ≡ collect) (here : Situation h r e l) (reach : promised r ≤ e .ballot .0) where
   abbrev mine : Lasting
@@ -51,18 +45,12 @@ module _ (h : Head) (r : Room) (e : Event) (l : Ledger) (kind : e .kind ≡ coll
   reported-told =
       record {
         next = l′;
-        moved = moves (reports (e .ballot .0) (here .event-told .collect-opened kind) (subst⁻¹ (λ (x : Lasting). x .promise ≤ e .ballot .0) (here .room-told .saved-lasts) reach)) stays;
+        moved = moves (reports (e .ballot .0) (heard h r e l kind here) (subst⁻¹ (λ (x : Lasting). x .promise ≤ e .ballot .0) (here .room-told .saved-lasts) reach)) stays;
         room-told =
             same-round l l′ (λ f said. inr said) (h .boxes) (h .index) r _ (λ p w. none-begun _ w)
             (update-same (l .box) (h .index) _ ∙ ap (promising (e .ballot .0)) (here .room-told .saved-lasts))
             (here .room-told);
-        answer-told = record {
-          collect-opened = λ k. absurd (omega arith);
-          last-reported = λ k. inl (sym (ap (λ (x : Lasting). reported (h .index) (e .ballot .0) (x .ballot) (x .value)) (here .room-told .saved-lasts)));
-          begin-begun = λ k. absurd (omega arith);
-          accept-voted = λ k. absurd (omega arith);
-          success-agreed = λ k. absurd (omega arith);
-        };
+        answer-told = inl (sym (ap (λ (x : Lasting). reported (h .index) (e .ballot .0) (x .ballot) (x .value)) (here .room-told .saved-lasts)));
         proposals = λ v said. inl (before v said);
       }
 

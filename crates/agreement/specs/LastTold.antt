@@ -30,7 +30,7 @@ use Rattle.agreement.specs.Ledger.{Ledger, Said, proposed, reported, beg
 use Rattle.agreement.specs.LedgerLaws.{said-before}
 use Rattle.agreement.specs.Majorities.{In, CollectSet, enough-collects, counted-all}
 use Rattle.agreement.specs.BoxTold.{CollectingTold, Situation, Told}
-use Rattle.agreement.specs.BoxLaws.{agreed-lasts, unmoved, refused}
+use Rattle.agreement.specs.BoxLaws.{agreed-lasts, unmoved, refused, heard}
 
 module _ (h : Head) (r : Room) (e : Event) (l : Ledger) (kind : e .kind ≡ last) (here : Situation h r e l) (mine : Awaited r e collecting (lasts r)) where
   abbrev counted : ℕ
@@ -49,7 +49,7 @@ module _ (h : Head) (r : Room) (e : Event) (l : Ledger) (kind : e .kind ≡ last
   sent : Said (reported (e .from) (ownBallot r) (e .second .0) (e .value)) l
   sent =
       subst⁻¹ (λ (b : ℕ). Said (reported (e .from) b (e .second .0) (e .value)) l) (mine .own-round)
-      (here .event-told .last-reported kind)
+      (heard h r e l kind here)
 
   -- the best is no lower than either, and is a report
   best-of-both : (bestBallot r ≤ best .ballot .0) × (e .second .0 ≤ best .ballot .0)
@@ -134,13 +134,7 @@ module _ (h : Head) (r : Room) (e : Event) (l : Ledger) (kind : e .kind ≡ last
             };
             agreed-told = λ some. agreed-lasts l l′ (λ f said. inr said) (h .boxes) (agreed r) (here .room-told .agreed-told some);
           };
-          answer-told = record {
-            collect-opened = λ k. absurd (omega arith);
-            last-reported = λ k. absurd (omega arith);
-            begin-begun = λ k. inl refl;
-            accept-voted = λ k. absurd (omega arith);
-            success-agreed = λ k. absurd (omega arith);
-          };
+          answer-told = inl refl;
           proposals = λ w said. inl (before w said);
         }
 

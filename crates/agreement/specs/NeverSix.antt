@@ -1,6 +1,7 @@
 -- No call of a run answers 6: a Success that is delivered brings the value that the box has agreed, if it has one.
 -- Relies on RunTold and the law of answers. Cited by the promises.
 use Prim.Native.Nat.{ℕ, _≤_}
+use mathlib.Core.Path.{subst}
 use mathlib.Core.Logic.{_≢_}
 use Rattle.ballots.specs.Ballot.{maxBoxes, makerOf}
 use Rattle.consensus.specs.declared.Event.{Event}
@@ -13,6 +14,7 @@ use Rattle.step_laws.specs.GivenWhen.{SuccessWithAnother, AtItsSlot}
 use Rattle.step_laws.specs.AnswerLaws.{given-exactly-when}
 use Rattle.agreement.specs.LedgerAgrees.{agreement}
 use Rattle.agreement.specs.Majorities.{In, CollectSet, BeginSet, sets-meet}
+use Rattle.agreement.specs.BoxTold.{ToldBy}
 use Rattle.agreement.specs.Runs.{World, start, answerTo, MayCall, Run}
 use Rattle.agreement.specs.WorldTold.{called-told}
 use Rattle.agreement.specs.RunTold.{from-start}
@@ -26,4 +28,4 @@ never-six n some few w i e run may six =
     at .has .another-value
     (agreement makerOf ℕ In (CollectSet n) (BeginSet n) (sets-meet n) (now .ledgers s) (now .told .ledgers-kept s) (agreed (roomAt (w .tables i) s)) (e .value)
     (now .told .boxes-told i (may .a-box) s below .agreed-told (at .has .some-agreed))
-    (called-told n w (now .ledgers) i e (now .told) may .success-agreed (at .has .a-success)))
+    (subst (λ (k : ℕ). ToldBy n (now .ledgers s) k e) (at .has .a-success) (called-told n w (now .ledgers) i e (now .told) may)))

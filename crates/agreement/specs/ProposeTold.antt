@@ -74,13 +74,7 @@ module _ (h : Head) (r : Room) (e : Event) (l : Ledger) (kind : e .kind ≡ prop
           begun-told = λ p. absurd (omega arith);
           agreed-told = λ some. absurd (some free);
         };
-        answer-told = record {
-          collect-opened = λ k. inl refl;
-          last-reported = λ k. absurd (omega arith);
-          begin-begun = λ k. absurd (omega arith);
-          accept-voted = λ k. absurd (omega arith);
-          success-agreed = λ k. absurd (omega arith);
-        };
+        answer-told = inl refl;
         proposals = proposals;
       }
 

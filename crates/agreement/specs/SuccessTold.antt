@@ -18,7 +18,7 @@ use Rattle.step_laws.specs.ByTest.{by-answer}
 use Rattle.agreement.specs.Update.{update-same}
 use Rattle.agreement.specs.Ledger.{Lasting, Ledger, promising, afterRaise, raises, stays, moves}
 use Rattle.agreement.specs.BoxTold.{Situation, Told}
-use Rattle.agreement.specs.BoxLaws.{agreed-lasts, idle-told, unmoved, refused}
+use Rattle.agreement.specs.BoxLaws.{agreed-lasts, idle-told, unmoved, refused, heard}
 
 pub success-told : (h : Head) (r : Room) (e : Event) (l : Ledger) → e .kind ≡ success → Situation h r e l → Told h r e l (onSuccess h r e)
 unfolding onSuccess
@@ -26,7 +26,7 @@ success-told h r e l kind here =
     by-answer (eqb (agreed r) 0)
     (λ none.
     simp none
-    (unmoved _ _ l r e _ Quiet (idle-told _ _ l (r .saved) (e .value) (here .room-told .saved-lasts) (λ some. here .event-told .success-agreed kind)) tt))
+    (unmoved _ _ l r e _ Quiet (idle-told _ _ l (r .saved) (e .value) (here .room-told .saved-lasts) (λ some. heard h r e l kind here)) tt))
     (λ some.
     by-answer (eqb (agreed r) (e .value))
     (λ same. simp (some, same) (refused _ _ l r e NotAwaited (here .room-told) tt))

@@ -4,7 +4,6 @@ use Prim.Native.Nat.{ℕ, _<_}
 use mathlib.Core.Path.{_≡_, subst, subst⁻¹}
 use mathlib.Core.Logic.{_≢_, _⊎_, ⊎-elim}
 use mathlib.Core.List.{List}
-use native.Mathlib.Omega.{arith}
 use lib.Dec.{eqb}
 use borrow.Author.Tests.{eqb-true, eqb-false}
 use Rattle.ballots.specs.Ballot.{makerOf}
@@ -18,7 +17,7 @@ use Rattle.step_laws.specs.ByTest.{by-test}
 use Rattle.agreement.specs.Ledger.{Ledger, Said, _⊑_, proposed}
 use Rattle.agreement.specs.LedgerKept.{Kept}
 use Rattle.agreement.specs.Majorities.{In, CollectSet}
-use Rattle.agreement.specs.BoxTold.{RoomTold, EventTold}
+use Rattle.agreement.specs.BoxTold.{RoomTold, ToldBy, EventTold}
 use Rattle.agreement.specs.BoxLaws.{event-lasts}
 use Rattle.agreement.specs.Runs.{World, Among, Outside, Delivered, answerTo, after, MayCall, ProposesFor}
 use Rattle.agreement.specs.RunKeeps.{withMessage-keeps}
@@ -45,22 +44,8 @@ called-told n w ls i e k may =
     ⊎-elim
     (λ (outside : Outside e).
     ⊎-elim
-    (λ (p : e .kind ≡ propose).
-    record {
-      collect-opened = λ q. absurd (omega arith);
-      last-reported = λ q. absurd (omega arith);
-      begin-begun = λ q. absurd (omega arith);
-      accept-voted = λ q. absurd (omega arith);
-      success-agreed = λ q. absurd (omega arith);
-    })
-    (λ (p : e .kind ≡ restart).
-    record {
-      collect-opened = λ q. absurd (omega arith);
-      last-reported = λ q. absurd (omega arith);
-      begin-begun = λ q. absurd (omega arith);
-      accept-voted = λ q. absurd (omega arith);
-      success-agreed = λ q. absurd (omega arith);
-    })
+    (λ (p : e .kind ≡ propose). subst⁻¹ (λ (x : ℕ). ToldBy n (ls (e .slot .0)) x e) p tt)
+    (λ (p : e .kind ≡ restart). subst⁻¹ (λ (x : ℕ). ToldBy n (ls (e .slot .0)) x e) p tt)
     outside)
     (λ (d : Delivered w i e). subst (λ (x : Event). EventTold n (ls (x .slot .0)) x) (d .carried) (k .parcels-told (d .message) (d .put-out)))
     (may .source)
