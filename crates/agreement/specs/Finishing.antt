@@ -12,6 +12,11 @@ use Rattle.consensus.specs.Layout.{slots}
 use Rattle.consensus.specs.Events.{propose, collect, last, begin, accept, event}
 use Rattle.consensus.specs.Answers.{answerNumber}
 use Rattle.agreement.specs.Runs.{StepFunction, World, start, MayCall, Run, answerTo, after, says, hasPromised}
+pub mod Calls
+pub mod Asks
+pub mod Counts
+pub mod All
+pub mod Reaches
 
 -- q is one of the boxes listed
 abbrev pub Listed : ℕ → List ℕ → Type 0

@@ -4,7 +4,14 @@ use Prim.Native.Nat.{ℕ, _≤_, _<_}
 use mathlib.Core.Path.{_≡_}
 use mathlib.Core.Logic.{_≢_, _⊎_}
 use mathlib.Core.List.{List, [], _∷_, _++_}
-use Rattle.agreement.specs.Update.{update}
+use Rattle.agreement.specs.Ledger.Update.{update}
+pub mod Update
+pub mod Laws
+pub mod Frames
+pub mod Kept
+pub mod KeptEntry
+pub mod Keeps
+pub mod Agrees
 
 -- ---- what is said, and what a box saves
 

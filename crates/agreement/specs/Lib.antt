@@ -1,33 +1,7 @@
--- Agreement, level by level: one slot's ledger; a box keeps the ledger; runs of boxes; and what is promised of runs.
-pub mod Update
+-- Agreement, level by level: a slot's ledger; a box keeps the ledger; runs of boxes; finishing; and what is promised.
 pub mod Ledger
-pub mod LedgerLaws
-pub mod LedgerMoves
-pub mod LedgerKept
-pub mod KeptEntry
-pub mod LedgerKeeps
-pub mod LedgerAgrees
 pub mod Majorities
-pub mod BoxTold
-pub mod BoxLaws
-pub mod ProposeTold
-pub mod CollectTold
-pub mod BeginTold
-pub mod SuccessTold
-pub mod AcceptTold
-pub mod LastTold
-pub mod OnSlotTold
+pub mod Box
 pub mod Runs
-pub mod RunKeeps
-pub mod WorldTold
-pub mod CallTold
-pub mod RunTold
-pub mod AgreedStays
-pub mod NeverSix
 pub mod Finishing
-pub mod FinishCalls
-pub mod FinishAsks
-pub mod FinishCounts
-pub mod FinishAll
-pub mod Reaches
 pub mod Promises

@@ -10,13 +10,13 @@ use Rattle.consensus.specs.Layout.{slots}
 use Rattle.consensus.specs.Answers.{answerNumber}
 use Rattle.consensus.specs.Step.{step}
 use Rattle.agreement.specs.Runs.{StepFunction, World, start, Delivered, MayCall, Run, ProposedIn, RestartedIn, answerTo, says}
-use Rattle.agreement.specs.RunKeeps.{reachable-kept, call-never-answers-3, delivered-answers}
-use Rattle.agreement.specs.RunTold
-use Rattle.agreement.specs.AgreedStays
-use Rattle.agreement.specs.NeverSix.{never-six}
+use Rattle.agreement.specs.Runs.Keeps.{reachable-kept, call-never-answers-3, delivered-answers}
+use Rattle.agreement.specs.Runs.Agrees
+use Rattle.agreement.specs.Runs.Stays
+use Rattle.agreement.specs.Runs.NeverSix.{never-six}
 use Rattle.agreement.specs.Finishing.{FinishesAll}
-use Rattle.agreement.specs.FinishAll.{finishes-all}
-use Rattle.agreement.specs.Reaches.{box-0-agrees-slot-0}
+use Rattle.agreement.specs.Finishing.All.{finishes-all}
+use Rattle.agreement.specs.Finishing.Reaches.{box-0-agrees-slot-0}
 
 -- 1 to 7 boxes
 pub record Count (n : ℕ) : Type 0 where
@@ -63,9 +63,9 @@ pub record Promises (f : StepFunction) : Type 0 where
 pub step-keeps-promises : Promises step
 step-keeps-promises =
     record {
-      one-value = λ n w u i j s count first later. RunTold.one-value n (count .some) (count .few) w u i j s first later;
-      was-proposed = λ n w i s count run. RunTold.was-proposed n (count .some) (count .few) w run i s;
-      stays-said = λ n w u i s count first later. AgreedStays.stays-said n (count .some) (count .few) w u i s first later;
+      one-value = λ n w u i j s count first later. Agrees.one-value n (count .some) (count .few) w u i j s first later;
+      was-proposed = λ n w i s count run. Agrees.was-proposed n (count .some) (count .few) w run i s;
+      stays-said = λ n w u i s count first later. Stays.stays-said n (count .some) (count .few) w u i s first later;
       never-answers = λ n w i e count run may.
           let kept = reachable-kept n w (count .some) (count .few) run in (
             call-never-answers-3 n w i e kept may,

@@ -16,6 +16,12 @@ use Rattle.consensus.specs.Events.{propose, restart}
 use Rattle.consensus.specs.Answers.{answerNumber}
 use Rattle.consensus.specs.OnSlot.{allBoxes}
 use Rattle.consensus.specs.Step.{Stepped}
+pub mod Keeps
+pub mod Told
+pub mod Call
+pub mod Agrees
+pub mod Stays
+pub mod NeverSix
 
 -- a box's table and an event give the new table and an answer
 abbrev pub StepFunction : Type 0

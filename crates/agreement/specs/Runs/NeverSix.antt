@@ -1,5 +1,5 @@
 -- No call of a run answers 6: a Success that is delivered brings the value that the box has agreed, if it has one.
--- Relies on RunTold and the law of answers. Cited by the promises.
+-- Relies on Agrees and the law of answers. Cited by the promises.
 use Prim.Native.Nat.{ℕ, _≤_}
 use mathlib.Core.Path.{subst}
 use mathlib.Core.Logic.{_≢_}
@@ -12,12 +12,12 @@ use Rattle.consensus.specs.Step.{step}
 use Rattle.step_laws.specs.EventLaws.{names-a-slot}
 use Rattle.step_laws.specs.GivenWhen.{SuccessWithAnother, AtItsSlot}
 use Rattle.step_laws.specs.AnswerLaws.{given-exactly-when}
-use Rattle.agreement.specs.LedgerAgrees.{agreement}
+use Rattle.agreement.specs.Ledger.Agrees.{agreement}
 use Rattle.agreement.specs.Majorities.{In, CollectSet, BeginSet, sets-meet}
-use Rattle.agreement.specs.BoxTold.{ToldBy}
+use Rattle.agreement.specs.Box.{ToldBy}
 use Rattle.agreement.specs.Runs.{World, start, answerTo, MayCall, Run}
-use Rattle.agreement.specs.WorldTold.{called-told}
-use Rattle.agreement.specs.RunTold.{from-start}
+use Rattle.agreement.specs.Runs.Told.{called-told}
+use Rattle.agreement.specs.Runs.Agrees.{from-start}
 
 pub never-six : (n : ℕ) → 1 ≤ n → n ≤ maxBoxes → (w : World) (i : ℕ) (e : Event) → Run step n (start n) w → MayCall n w i e → answerNumber (answerTo step w i e) ≢ 6
 never-six n some few w i e run may six =

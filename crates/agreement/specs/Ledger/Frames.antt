@@ -1,14 +1,14 @@
 -- Laws of moves: each is one entry of one box, and what they leave as it was.
--- Relies on Update, Ledger and LedgerLaws. Cited by the crates above.
+-- Relies on Update, Ledger and Laws. Cited by the crates above.
 use Prim.Native.Nat.{ℕ, _≤_}
 use mathlib.Core.Path.{_≡_, refl, ap, _∙_, subst}
 use mathlib.Core.Logic.{_≢_, ⊎-elim}
 use mathlib.Core.List.{List, [], _∷_}
 use native.Mathlib.Nat.{le-refl, le-trans}
 use native.Mathlib.Omega.{arith}
-use Rattle.agreement.specs.Update.{update-other, update-all}
+use Rattle.agreement.specs.Ledger.Update.{update-other, update-all}
 use Rattle.agreement.specs.Ledger.{Fact, proposed, opened, reported, begun, voted, Lasting, Ledger, Among, Said, _⊑_, after, promising, accepting, Move, opens, reports, begins, votes, raises, Moves, stays, moves}
-use Rattle.agreement.specs.LedgerLaws.{begunKind, Lacks, begun-ballot, said-lasts, new-or-said, lacking-not-among, only-among}
+use Rattle.agreement.specs.Ledger.Laws.{begunKind, Lacks, begun-ballot, said-lasts, new-or-said, lacking-not-among, only-among}
 
 module _ (makerOf : ℕ → ℕ) where
   -- what all moves have in common: box a keeps its promise or raises it, says some facts, and begins at ballots of its own alone

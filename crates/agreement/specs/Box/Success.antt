@@ -1,5 +1,5 @@
 -- Success brings an agreed value, and OldRound raises the promise; both leave no round.
--- Relies on BoxTold and its laws. Cited by OnSlotTold.
+-- Relies on Box and its laws. Cited by OnSlot.
 use Prim.Native.Nat.{ℕ, _≤_, max}
 use mathlib.Core.Path.{_≡_, ap, subst⁻¹, _∙_}
 use mathlib.Core.Bool.{not, _&&_}
@@ -15,10 +15,10 @@ use Rattle.consensus.specs.Room.{promised, phase, ownBallot, agreed, idle, save
 use Rattle.consensus.specs.Events.{success}
 use Rattle.consensus.specs.OnSlot.{onSuccess, onOldRound}
 use Rattle.step_laws.specs.ByTest.{by-answer}
-use Rattle.agreement.specs.Update.{update-same}
+use Rattle.agreement.specs.Ledger.Update.{update-same}
 use Rattle.agreement.specs.Ledger.{Lasting, Ledger, promising, afterRaise, raises, stays, moves}
-use Rattle.agreement.specs.BoxTold.{Situation, Told}
-use Rattle.agreement.specs.BoxLaws.{agreed-lasts, idle-told, unmoved, refused, heard}
+use Rattle.agreement.specs.Box.{Situation, Told}
+use Rattle.agreement.specs.Box.Laws.{agreed-lasts, idle-told, unmoved, refused, heard}
 
 pub success-told : (h : Head) (r : Room) (e : Event) (l : Ledger) → e .kind ≡ success → Situation h r e l → Told h r e l (onSuccess h r e)
 unfolding onSuccess

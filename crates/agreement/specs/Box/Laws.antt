@@ -1,5 +1,5 @@
 -- What stays told: facts are only added, so what a room and a message say stays told, and other boxes' moves take nothing away.
--- Relies on BoxTold and the laws of moves. Cited by the laws of each kind of event and by the laws of runs.
+-- Relies on Box and the laws of moves. Cited by the laws of each kind of event and by the laws of runs.
 use Prim.Native.Nat.{ℕ}
 use mathlib.Core.Path.{_≡_, sym, _∙_, subst}
 use mathlib.Core.Bool.{Bool, true, false, cond}
@@ -17,11 +17,11 @@ use Rattle.consensus.specs.declared.Outcome.the-variants.{Becomes, Refused}
 use Rattle.consensus.specs.Room.{phase, ownBallot, agreed, collecting, room, noRound}
 use Rattle.consensus.specs.Events.{collect, last, begin, accept, success}
 use Rattle.agreement.specs.Ledger.{Ledger, Said, _⊑_, begun, stays}
-use Rattle.agreement.specs.LedgerLaws.{report-lasts}
-use Rattle.agreement.specs.LedgerMoves.{Frame}
-use Rattle.agreement.specs.LedgerAgrees.{chosen-lasts}
+use Rattle.agreement.specs.Ledger.Laws.{report-lasts}
+use Rattle.agreement.specs.Ledger.Frames.{Frame}
+use Rattle.agreement.specs.Ledger.Agrees.{chosen-lasts}
 use Rattle.agreement.specs.Majorities.{In, BeginSet}
-use Rattle.agreement.specs.BoxTold.{lastingOf, Agreed, CollectingTold, BegunTold, RoomTold, EventTold, AnswerTold, OutcomeTold, ToldBy, Situation}
+use Rattle.agreement.specs.Box.{lastingOf, Agreed, CollectingTold, BegunTold, RoomTold, EventTold, AnswerTold, OutcomeTold, ToldBy, Situation}
 
 -- nothing is begun at b that was not begun before
 abbrev pub BeginsNone : Ledger → Ledger → ℕ → Type 0

@@ -1,15 +1,15 @@
--- What an entry of one box keeps: all that LedgerKept says of the old facts and the other boxes, and of the new ones if shown.
--- Relies on Update, LedgerLaws and LedgerKept. Cited by LedgerKeeps, once for each move.
+-- What an entry of one box keeps: all that Kept says of the old facts and the other boxes, and of the new ones if shown.
+-- Relies on Update, Laws and Kept. Cited by Keeps, once for each move.
 use Prim.Native.Nat.{ℕ, _≤_}
 use mathlib.Core.Path.{subst⁻¹}
 use mathlib.Core.Logic.{inl, inr, ⊎-elim}
 use mathlib.Core.List.{List, [], _∷_}
 use native.Mathlib.Nat.{le-refl, le-trans}
 use native.Mathlib.Omega.{arith}
-use Rattle.agreement.specs.Update.{update-all}
+use Rattle.agreement.specs.Ledger.Update.{update-all}
 use Rattle.agreement.specs.Ledger.{Fact, proposed, opened, reported, begun, voted, Lasting, Ledger, Among, _⊑_, after, promising}
-use Rattle.agreement.specs.LedgerLaws.{reportedKind, begunKind, votedKind, Lacks, said-lasts, new-or-said, said-before, backed-lasts}
-use Rattle.agreement.specs.LedgerKept.{BoxKept, OneBegun, VotesReported, FactKept, Kept}
+use Rattle.agreement.specs.Ledger.Laws.{reportedKind, begunKind, votedKind, Lacks, said-lasts, new-or-said, said-before, backed-lasts}
+use Rattle.agreement.specs.Ledger.Kept.{BoxKept, OneBegun, VotesReported, FactKept, Kept}
 
 -- the promise and the accepted ballot of a box never fall
 pub record Grown (s t : Lasting) : Type 0 where

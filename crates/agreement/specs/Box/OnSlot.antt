@@ -9,13 +9,13 @@ use Rattle.consensus.specs.OnSlot.{onSlot}
 use Rattle.step_laws.specs.EventLaws.{event-cases}
 use Rattle.step_laws.specs.EventLaws.EventCases.{a-propose, a-collect, a-last, a-begin, an-accept, a-success, an-oldRound, a-restart}
 use Rattle.agreement.specs.Ledger.{Ledger}
-use Rattle.agreement.specs.BoxTold.{Situation, Told}
-use Rattle.agreement.specs.ProposeTold.{propose-told}
-use Rattle.agreement.specs.CollectTold.{collect-told}
-use Rattle.agreement.specs.LastTold.{last-told}
-use Rattle.agreement.specs.BeginTold.{begin-told}
-use Rattle.agreement.specs.AcceptTold.{accept-told}
-use Rattle.agreement.specs.SuccessTold.{success-told, oldRound-told}
+use Rattle.agreement.specs.Box.{Situation, Told}
+use Rattle.agreement.specs.Box.Propose.{propose-told}
+use Rattle.agreement.specs.Box.Collect.{collect-told}
+use Rattle.agreement.specs.Box.Last.{last-told}
+use Rattle.agreement.specs.Box.Begin.{begin-told}
+use Rattle.agreement.specs.Box.Accept.{accept-told}
+use Rattle.agreement.specs.Box.Success.{success-told, oldRound-told}
 
 pub onSlot-told : (h : Head) (r : Room) (e : Event) (l : Ledger) → e .kind ≢ restart → Situation h r e l → Told h r e l (onSlot h r e)
 unfolding onSlot

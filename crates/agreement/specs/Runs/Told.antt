@@ -1,5 +1,5 @@
 -- A world keeps the ledgers: for each slot a ledger in which all that the boxes and the messages say of it is said.
--- Relies on the laws of boxes and of reachable worlds. Cited by RunTold.
+-- Relies on the laws of boxes and of reachable worlds. Cited by Agrees.
 use Prim.Native.Nat.{ℕ, _<_}
 use mathlib.Core.Path.{_≡_, subst, subst⁻¹}
 use mathlib.Core.Logic.{_≢_, _⊎_, ⊎-elim}
@@ -15,12 +15,12 @@ use Rattle.consensus.specs.Events.{propose, restart}
 use Rattle.consensus.specs.Step.{step}
 use Rattle.step_laws.specs.ByTest.{by-test}
 use Rattle.agreement.specs.Ledger.{Ledger, Said, _⊑_, proposed}
-use Rattle.agreement.specs.LedgerKept.{Kept}
+use Rattle.agreement.specs.Ledger.Kept.{Kept}
 use Rattle.agreement.specs.Majorities.{In, CollectSet}
-use Rattle.agreement.specs.BoxTold.{RoomTold, ToldBy, EventTold}
-use Rattle.agreement.specs.BoxLaws.{event-lasts}
+use Rattle.agreement.specs.Box.{RoomTold, ToldBy, EventTold}
+use Rattle.agreement.specs.Box.Laws.{event-lasts}
 use Rattle.agreement.specs.Runs.{World, Among, Outside, Delivered, answerTo, after, MayCall, ProposesFor}
-use Rattle.agreement.specs.RunKeeps.{withMessage-keeps}
+use Rattle.agreement.specs.Runs.Keeps.{withMessage-keeps}
 
 -- a ledger for each slot
 abbrev pub Ledgers : Type 0

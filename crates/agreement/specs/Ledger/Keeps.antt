@@ -1,16 +1,16 @@
--- Every move keeps what LedgerKept says, one lemma a move, so every reachable ledger has it.
--- Relies on Update, LedgerLaws, LedgerKept and KeptEntry. Cited by LedgerAgrees, and by the crates above.
+-- Every move keeps what Kept says, one lemma a move, so every reachable ledger has it.
+-- Relies on Update, Laws, Kept and KeptEntry. Cited by Agrees, and by the crates above.
 use Prim.Native.Nat.{ℕ, _≤_, _<_}
 use mathlib.Core.Path.{_≡_, refl, sym, ap, _∙_, subst, subst⁻¹}
 use mathlib.Core.Logic.{_≢_, inl, inr}
 use mathlib.Core.List.{List, [], _∷_}
 use native.Mathlib.Nat.{le-refl, le-trans, le-of-eq}
 use native.Mathlib.Omega.{arith}
-use Rattle.agreement.specs.Update.{update, update-same}
+use Rattle.agreement.specs.Ledger.Update.{update, update-same}
 use Rattle.agreement.specs.Ledger.{Fact, proposed, opened, reported, begun, voted, Lasting, Ledger, Said, _⊑_, emptyLedger, after, promising, accepting, afterOpen, afterReport, afterBegin, afterVote, afterRaise, Sourced, own, taken, Backed, Move, opens, reports, begins, votes, raises, Moves, stays, moves, Reachable, starts, continues}
-use Rattle.agreement.specs.LedgerLaws.{begun-ballot, begun-value, reported-box, reported-ballot, voted-box, voted-ballot, said-lasts, said-before, backed-lasts}
-use Rattle.agreement.specs.LedgerKept.{ReportedKept, OneBegun, VotesReported, BegunKept, Kept}
-use Rattle.agreement.specs.KeptEntry.{box-lasts, one-begun-lasts, votes-reported-last, entry-keeps}
+use Rattle.agreement.specs.Ledger.Laws.{begun-ballot, begun-value, reported-box, reported-ballot, voted-box, voted-ballot, said-lasts, said-before, backed-lasts}
+use Rattle.agreement.specs.Ledger.Kept.{ReportedKept, OneBegun, VotesReported, BegunKept, Kept}
+use Rattle.agreement.specs.Ledger.KeptEntry.{box-lasts, one-begun-lasts, votes-reported-last, entry-keeps}
 
 module _ (makerOf : ℕ → ℕ) (Boxes : Type 0) (In : ℕ → Boxes → Type 0) (EnoughToCollect : Boxes → Type 0) where
   -- ---- one lemma a move

@@ -1,5 +1,5 @@
 -- Collect is a report: the box promises the opened ballot and reports its accepted pair there. Below the promise nothing moves.
--- Relies on BoxTold and its laws. Cited by OnSlotTold, and its tooOld-told by Begin.
+-- Relies on Box and its laws. Cited by OnSlot, and its tooOld-told by Begin.
 use Prim.Native.Nat.{ℕ, _≤_}
 use mathlib.Core.Path.{_≡_, sym, ap, subst⁻¹, _∙_}
 use mathlib.Core.Logic.{inl, inr}
@@ -15,11 +15,11 @@ use Rattle.consensus.specs.Room.{promised, agreed, acceptedBallot, acceptedValu
 use Rattle.consensus.specs.Events.{collect, last}
 use Rattle.consensus.specs.OnSlot.{send, tooOld, onCollect}
 use Rattle.step_laws.specs.ByTest.{by-answer}
-use Rattle.agreement.specs.Update.{update-same}
+use Rattle.agreement.specs.Ledger.Update.{update-same}
 use Rattle.agreement.specs.Ledger.{Lasting, Ledger, Said, proposed, reported, begun, promising, afterReport, reports, stays, moves}
-use Rattle.agreement.specs.LedgerLaws.{said-before}
-use Rattle.agreement.specs.BoxTold.{Situation, Told}
-use Rattle.agreement.specs.BoxLaws.{same-round, unmoved, heard}
+use Rattle.agreement.specs.Ledger.Laws.{said-before}
+use Rattle.agreement.specs.Box.{Situation, Told}
+use Rattle.agreement.specs.Box.Laws.{same-round, unmoved, heard}
 
 -- OldRound tells nothing
 pub tooOld-told : (h : Head) (r : Room) (e : Event) (l : Ledger) → Situation h r e l → Told h r e l (tooOld h r e)

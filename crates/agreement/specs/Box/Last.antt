@@ -1,5 +1,5 @@
 -- Last counts a report; with enough of them the box begins at its own ballot, with the value of the highest report or its own.
--- Relies on BoxTold and its laws. Cited by OnSlotTold.
+-- Relies on Box and its laws. Cited by OnSlot.
 use Prim.Native.Nat.{ℕ, _^_, _≤_, _<_}
 use mathlib.Core.Path.{_≡_, refl, sym, subst⁻¹, _∙_}
 use mathlib.Core.Bool.{true, false≢true}
@@ -25,12 +25,12 @@ use Rattle.step_laws.specs.ByTest.{by-test, by-answer}
 use Rattle.step_laws.specs.KeptLaws.{RunningKept, kept-clauses}
 use Rattle.step_laws.specs.EventLaws.{last-clauses}
 use Rattle.step_laws.specs.AwaitedLaws.{Awaited, awaited-clauses, counted-are-boxes}
-use Rattle.agreement.specs.Update.{update-same}
+use Rattle.agreement.specs.Ledger.Update.{update-same}
 use Rattle.agreement.specs.Ledger.{Ledger, Said, proposed, reported, begun, Report, Sourced, own, taken, Backed, afterBegin, begins, stays, moves}
-use Rattle.agreement.specs.LedgerLaws.{said-before}
+use Rattle.agreement.specs.Ledger.Laws.{said-before}
 use Rattle.agreement.specs.Majorities.{In, CollectSet, enough-collects, counted-all}
-use Rattle.agreement.specs.BoxTold.{CollectingTold, Situation, Told}
-use Rattle.agreement.specs.BoxLaws.{agreed-lasts, unmoved, refused, heard}
+use Rattle.agreement.specs.Box.{CollectingTold, Situation, Told}
+use Rattle.agreement.specs.Box.Laws.{agreed-lasts, unmoved, refused, heard}
 
 module _ (h : Head) (r : Room) (e : Event) (l : Ledger) (kind : e .kind ≡ last) (here : Situation h r e l) (mine : Awaited r e collecting (lasts r)) where
   abbrev counted : ℕ

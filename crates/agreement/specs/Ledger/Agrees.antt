@@ -1,5 +1,5 @@
 -- What Paxos promises of one slot, of any ledger that is kept, so of every reachable one: at most one value is ever chosen, and it was proposed.
--- Relies on LedgerKept, which LedgerKeeps proves of every reachable ledger. Cited by the crates above.
+-- Relies on Kept, which Keeps proves of every reachable ledger. Cited by the crates above.
 use Prim.Native.Nat.{ℕ, zero, suc, _≤_, _<_}
 use mathlib.Core.Path.{_≡_, sym, subst}
 use mathlib.Core.Logic.{⊎-elim}
@@ -7,7 +7,7 @@ use native.Mathlib.Nat.{le-trans, lt-of-lt-of-le, lt-suc-self, eq-or-lt-of-le}
 use native.Mathlib.Decide.{decLe}
 use native.Mathlib.Omega.{arith}
 use Rattle.agreement.specs.Ledger.{proposed, opened, reported, begun, voted, Ledger, Said, _⊑_, Report, Sourced, own, taken, Backed, Chosen, ChosenValue}
-use Rattle.agreement.specs.LedgerKept.{BegunKept, Kept}
+use Rattle.agreement.specs.Ledger.Kept.{BegunKept, Kept}
 
 module _ (makerOf : ℕ → ℕ) (Boxes : Type 0) (In : ℕ → Boxes → Type 0) (EnoughToCollect : Boxes → Type 0) where
   -- at most one value is begun at a ballot

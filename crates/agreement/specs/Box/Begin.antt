@@ -1,5 +1,5 @@
 -- Begin is a vote for what is begun at the ballot. Below the promise nothing moves.
--- Relies on BoxTold and its laws. Cited by OnSlotTold.
+-- Relies on Box and its laws. Cited by OnSlot.
 use Prim.Native.Nat.{ℕ, _≤_}
 use mathlib.Core.Path.{_≡_, refl, subst⁻¹}
 use mathlib.Core.Logic.{inl, inr}
@@ -17,12 +17,12 @@ use Rattle.consensus.specs.Events.{begin, accept}
 use Rattle.consensus.specs.OnSlot.{send, onBegin}
 use Rattle.step_laws.specs.ByTest.{by-answer}
 use Rattle.step_laws.specs.EventLaws.{begin-clauses}
-use Rattle.agreement.specs.Update.{update-same}
+use Rattle.agreement.specs.Ledger.Update.{update-same}
 use Rattle.agreement.specs.Ledger.{Lasting, Ledger, Said, proposed, begun, voted, afterVote, votes, stays, moves}
-use Rattle.agreement.specs.LedgerLaws.{said-before}
-use Rattle.agreement.specs.BoxTold.{Situation, Told}
-use Rattle.agreement.specs.BoxLaws.{same-round, heard}
-use Rattle.agreement.specs.CollectTold.{tooOld-told}
+use Rattle.agreement.specs.Ledger.Laws.{said-before}
+use Rattle.agreement.specs.Box.{Situation, Told}
+use Rattle.agreement.specs.Box.Laws.{same-round, heard}
+use Rattle.agreement.specs.Box.Collect.{tooOld-told}
 
 module _ (h : Head) (r : Room) (e : Event) (l : Ledger) (kind : e .kind ≡ begin) (here : Situation h r e l) (reach : promised r ≤ e .ballot .0) where
   abbrev l′ : Ledger

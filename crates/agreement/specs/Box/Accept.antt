@@ -1,5 +1,5 @@
 -- Accept counts a vote; with enough of them the own value is agreed. No move: the votes are in the ledger already.
--- Relies on BoxTold and its laws. Cited by OnSlotTold.
+-- Relies on Box and its laws. Cited by OnSlot.
 use Prim.Native.Nat.{ℕ, _^_, _<_}
 use mathlib.Core.Path.{_≡_, subst⁻¹}
 use mathlib.Core.Bool.{true}
@@ -20,8 +20,8 @@ use Rattle.step_laws.specs.EventLaws.{accept-clauses}
 use Rattle.step_laws.specs.AwaitedLaws.{Awaited, awaited-clauses, counted-are-boxes}
 use Rattle.agreement.specs.Ledger.{Ledger, Said, voted}
 use Rattle.agreement.specs.Majorities.{In, enough-begins, counted-all}
-use Rattle.agreement.specs.BoxTold.{Agreed, BegunTold, Situation, Told}
-use Rattle.agreement.specs.BoxLaws.{idle-told, unmoved, refused, heard}
+use Rattle.agreement.specs.Box.{Agreed, BegunTold, Situation, Told}
+use Rattle.agreement.specs.Box.Laws.{idle-told, unmoved, refused, heard}
 
 module _ (h : Head) (r : Room) (e : Event) (l : Ledger) (kind : e .kind ≡ accept) (here : Situation h r e l) (mine : Awaited r e begunPhase (accepts r)) where
   abbrev counted : ℕ

@@ -1,5 +1,5 @@
 -- Propose opens a ballot of the box's own, above its promise, for its value.
--- Relies on BoxTold and its laws. Cited by OnSlotTold.
+-- Relies on Box and its laws. Cited by OnSlot.
 use Prim.Native.Nat.{ℕ, _<_}
 use mathlib.Core.Path.{_≡_, refl, sym, ap, subst⁻¹, _∙_}
 use mathlib.Core.Bool.{false≢true}
@@ -21,13 +21,13 @@ use Rattle.consensus.specs.Room.{promised, agreed, collecting, vote, saved, rou
 use Rattle.consensus.specs.Events.{propose, collect}
 use Rattle.consensus.specs.OnSlot.{allBoxes, send, onPropose}
 use Rattle.step_laws.specs.ByTest.{by-answer}
-use Rattle.agreement.specs.Update.{update-same}
+use Rattle.agreement.specs.Ledger.Update.{update-same}
 use Rattle.agreement.specs.Ledger.{Lasting, Ledger, Said, opened, proposed, begun, promising, afterOpen, opens, stays, moves}
-use Rattle.agreement.specs.LedgerLaws.{said-before}
-use Rattle.agreement.specs.LedgerAgrees.{unbegun-above}
+use Rattle.agreement.specs.Ledger.Laws.{said-before}
+use Rattle.agreement.specs.Ledger.Agrees.{unbegun-above}
 use Rattle.agreement.specs.Majorities.{In, CollectSet}
-use Rattle.agreement.specs.BoxTold.{Proposes, Situation, Told}
-use Rattle.agreement.specs.BoxLaws.{refused}
+use Rattle.agreement.specs.Box.{Proposes, Situation, Told}
+use Rattle.agreement.specs.Box.Laws.{refused}
 
 module _ (h : Head) (r : Room) (e : Event) (l : Ledger) (kind : e .kind ≡ propose) (here : Situation h r e l) (free : agreed r ≡ 0) where
   abbrev b : ℕ

@@ -1,5 +1,5 @@
 -- One call on a slot of a kept world: what it leaves there, at the other boxes and among the messages; and turns put together.
--- Relies on RunKeeps and the laws of the step. Cited by the proof that a round finishes.
+-- Relies on Runs.Keeps and the laws of the step. Cited by the proof that a round finishes.
 use Prim.Native.Nat.{ℕ, _<_}
 use mathlib.Core.Path.{_≡_, refl, sym, ap, subst, _∙_}
 use mathlib.Core.Bool.{true}
@@ -21,7 +21,7 @@ use Rattle.step_laws.specs.KeptLaws.{WellKept, kept-clauses}
 use Rattle.step_laws.specs.StepCases.{roomAfter, answerOf, outcomeOf}
 use Rattle.step_laws.specs.StepKeeps.{step-room-at-slot, step-answer-at-slot}
 use Rattle.agreement.specs.Runs.{StepFunction, World, Among, withMessage, withTable, answerTo, after, MayCall}
-use Rattle.agreement.specs.RunKeeps.{headIn, RunKept, call-keeps, reaches-slot}
+use Rattle.agreement.specs.Runs.Keeps.{headIn, RunKept, call-keeps, reaches-slot}
 use Rattle.agreement.specs.Finishing.{Turn, Turns}
 use Rattle.agreement.specs.Finishing.Turns.{none, next}
 

@@ -1,5 +1,5 @@
 -- Laws of what is said: it stays said, a fact of a kind that was not added was said before, and a ledger that says more still backs.
--- Relies on Ledger. Cited by LedgerMoves, KeptEntry and LedgerKeeps, and by the crates above.
+-- Relies on Ledger. Cited by Frames, KeptEntry and Keeps, and by the crates above.
 use Prim.Native.Nat.{ℕ}
 use mathlib.Core.Path.{_≡_, ap}
 use mathlib.Core.Logic.{_≢_, _⊎_, inl, inr, ⊎-elim}

@@ -1,5 +1,5 @@
 -- What a box once said of a slot stays said: no event changes an agreed value, and only a restart forgets it.
--- Relies on the laws of the step and on RunTold. Cited by the promises.
+-- Relies on the laws of the step and on Agrees. Cited by the promises.
 use Prim.Native.Nat.{ℕ, _≤_, _<_}
 use mathlib.Core.Path.{_≡_, refl, sym, ap, subst, subst⁻¹, _∙_}
 use mathlib.Core.Bool.{true, not, _&&_}
@@ -34,8 +34,8 @@ use Rattle.step_laws.specs.StepCases.StepCases.{refuses, restarts, settles}
 use Rattle.step_laws.specs.StepKeeps.{step-room-at-slot, step-keeps-other}
 use Rattle.agreement.specs.Runs.{World, start, MayCall, Run, RestartedIn, after, says}
 use Rattle.agreement.specs.Runs.Run.{still, _and-then_}
-use Rattle.agreement.specs.RunKeeps.{BoxKept, RunKept, start-kept, run-keeps}
-use Rattle.agreement.specs.RunTold.{one-value}
+use Rattle.agreement.specs.Runs.Keeps.{BoxKept, RunKept, start-kept, run-keeps}
+use Rattle.agreement.specs.Runs.Agrees.{one-value}
 
 -- ---- one event on its slot
 

@@ -21,10 +21,10 @@ use Rattle.consensus.specs.OnSlot.{allBoxes, onCollect, onBegin, onSlot}
 use Rattle.consensus.specs.Step.{step}
 use Rattle.consensus.specs.Answers.{answerNumber}
 use Rattle.agreement.specs.Runs.{World, Among, after, says, hasPromised}
-use Rattle.agreement.specs.RunKeeps.{headIn, RunKept}
+use Rattle.agreement.specs.Runs.Keeps.{headIn, RunKept}
 use Rattle.agreement.specs.Finishing.{Listed, Turns, turn}
 use Rattle.agreement.specs.Finishing.Turns.{none, next}
-use Rattle.agreement.specs.FinishCalls.{parcel, may-deliver, roomIn, kept-room, call-becomes, by-box, turns-append}
+use Rattle.agreement.specs.Finishing.Calls.{parcel, may-deliver, roomIn, kept-room, call-becomes, by-box, turns-append}
 
 -- ---- while the round of ballot b is underway
 

@@ -1,5 +1,5 @@
 -- What every reachable ledger keeps: a truth about each fact that was said, about each box, and about two pairs of facts.
--- Relies on Ledger. Proved of every reachable ledger in LedgerKeeps. Cited by LedgerAgrees, and by the crates above.
+-- Relies on Ledger. Proved of every reachable ledger in Keeps. Cited by Agrees, and by the crates above.
 use Prim.Native.Nat.{ℕ, _≤_, _<_}
 use mathlib.Core.Path.{_≡_}
 use mathlib.Core.Logic.{_≢_}

@@ -29,11 +29,11 @@ use Rattle.consensus.specs.Answers.{answerNumber}
 use Rattle.step_laws.specs.AwaitedLaws.{clauses-awaited}
 use Rattle.step_laws.specs.EventTests.{clauses-propose}
 use Rattle.agreement.specs.Runs.{World, Among, after, hasPromised}
-use Rattle.agreement.specs.RunKeeps.{headIn, RunKept, reachable-kept}
+use Rattle.agreement.specs.Runs.Keeps.{headIn, RunKept, reachable-kept}
 use Rattle.agreement.specs.Finishing.{Listed, OrderOf, Turn, Turns, turn, proposal, MayFinish, Finishes, FinishesAll}
-use Rattle.agreement.specs.FinishCalls.{parcel, roomIn, Called, call-becomes, by-box, turns-append}
-use Rattle.agreement.specs.FinishAsks.{Standing, Replies, collect-replies, begin-replies, Asked, every-asked}
-use Rattle.agreement.specs.FinishCounts.{Underway, Counter, Waiting, every-counted}
+use Rattle.agreement.specs.Finishing.Calls.{parcel, roomIn, Called, call-becomes, by-box, turns-append}
+use Rattle.agreement.specs.Finishing.Asks.{Standing, Replies, collect-replies, begin-replies, Asked, every-asked}
+use Rattle.agreement.specs.Finishing.Counts.{Underway, Counter, Waiting, every-counted}
 
 -- ---- how Lasts and Accepts are counted
 

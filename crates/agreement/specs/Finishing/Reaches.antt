@@ -17,7 +17,7 @@ use Rattle.agreement.specs.Runs.{StepFunction, World, start, Run, after,
 use Rattle.agreement.specs.Runs.Run.{still, _and-then_}
 use Rattle.agreement.specs.Finishing.{Listed, Distinct, OrderOf, Turn, Turns, proposal, MayFinish}
 use Rattle.agreement.specs.Finishing.Turns.{none, next}
-use Rattle.agreement.specs.FinishAll.{finishes-all}
+use Rattle.agreement.specs.Finishing.All.{finishes-all}
 
 -- ---- the first m boxes
 

@@ -21,8 +21,16 @@ use Rattle.consensus.specs.Events.{propose, collect, last, begin, accept, succe
 use Rattle.step_laws.specs.HeadLaws.{HeadKept}
 use Rattle.step_laws.specs.StepCases.{roomAfter, answerOf}
 use Rattle.agreement.specs.Ledger.{Lasting, Ledger, Said, opened, proposed, reported, begun, voted, Report, Moves, ChosenValue}
-use Rattle.agreement.specs.LedgerKept.{Kept}
+use Rattle.agreement.specs.Ledger.Kept.{Kept}
 use Rattle.agreement.specs.Majorities.{In, CollectSet, BeginSet}
+pub mod Laws
+pub mod Propose
+pub mod Collect
+pub mod Last
+pub mod Begin
+pub mod Accept
+pub mod Success
+pub mod OnSlot
 
 -- the saved numbers of a room
 abbrev pub lastingOf : Room → Lasting

@@ -9,16 +9,16 @@ use Rattle.consensus.specs.Layout.{slots}
 use Rattle.consensus.specs.Step.{step}
 use Rattle.step_laws.specs.LayoutLaws.{roomAt-fresh}
 use Rattle.agreement.specs.Ledger.{Said, _⊑_, proposed, emptyLedger}
-use Rattle.agreement.specs.LedgerKeeps.{empty-kept}
-use Rattle.agreement.specs.LedgerAgrees.{agreement, chosen-was-proposed}
+use Rattle.agreement.specs.Ledger.Keeps.{empty-kept}
+use Rattle.agreement.specs.Ledger.Agrees.{agreement, chosen-was-proposed}
 use Rattle.agreement.specs.Majorities.{In, CollectSet, BeginSet, sets-meet}
-use Rattle.agreement.specs.BoxTold.{RoomTold}
-use Rattle.agreement.specs.BoxLaws.{agreed-lasts, idle-told}
+use Rattle.agreement.specs.Box.{RoomTold}
+use Rattle.agreement.specs.Box.Laws.{agreed-lasts, idle-told}
 use Rattle.agreement.specs.Runs.{World, start, Run, ProposedIn, says}
 use Rattle.agreement.specs.Runs.Run.{still, _and-then_}
-use Rattle.agreement.specs.RunKeeps.{RunKept, start-kept, run-keeps}
-use Rattle.agreement.specs.WorldTold.{Ledgers, WorldTold}
-use Rattle.agreement.specs.CallTold.{call-told}
+use Rattle.agreement.specs.Runs.Keeps.{RunKept, start-kept, run-keeps}
+use Rattle.agreement.specs.Runs.Told.{Ledgers, WorldTold}
+use Rattle.agreement.specs.Runs.Call.{call-told}
 
 -- nothing is said at the start
 pub start-told : (n : ℕ) → WorldTold n (start n) (λ s. emptyLedger)

@@ -26,11 +26,11 @@ use Rattle.consensus.specs.OnSlot.{onSlot}
 use Rattle.consensus.specs.Step.{step}
 use Rattle.consensus.specs.Answers.{answerNumber}
 use Rattle.agreement.specs.Runs.{World, Among, after, MayCall, hasPromised}
-use Rattle.agreement.specs.RunKeeps.{headIn}
+use Rattle.agreement.specs.Runs.Keeps.{headIn}
 use Rattle.agreement.specs.Finishing.{Listed, Distinct, Turns, turn}
 use Rattle.agreement.specs.Finishing.Turns.{none, next}
-use Rattle.agreement.specs.FinishCalls.{parcel, may-deliver, roomIn, kept-room, Called, call-becomes, by-box, turns-append}
-use Rattle.agreement.specs.FinishAsks.{Standing, Replied, replied-stays, nothing-agreed-yet}
+use Rattle.agreement.specs.Finishing.Calls.{parcel, may-deliver, roomIn, kept-room, Called, call-becomes, by-box, turns-append}
+use Rattle.agreement.specs.Finishing.Asks.{Standing, Replied, replied-stays, nothing-agreed-yet}
 
 -- ---- one reply counted
 

@@ -1,5 +1,5 @@
 -- Each call of a run keeps the ledgers: a refusal and a restart move nothing, and an event that reaches its slot makes its moves there.
--- Relies on WorldTold, the law over the kinds, and the frame for other boxes and slots. Cited by RunTold.
+-- Relies on Told, the law over the kinds, and the frame for other boxes and slots. Cited by Agrees.
 use Prim.Native.Nat.{ℕ, _<_}
 use mathlib.Core.Path.{_≡_, refl, sym, ap, subst, subst⁻¹, _∙_}
 use mathlib.Core.Bool.{true, true≢false}
@@ -30,18 +30,18 @@ use Rattle.step_laws.specs.StepCases.{ReachesSlot, RestartsAll, answerOf, outco
 use Rattle.step_laws.specs.StepCases.StepCases.{refuses, restarts, settles}
 use Rattle.step_laws.specs.StepKeeps.{step-room-at-slot, step-answer-at-slot, step-keeps-other}
 use Rattle.step_laws.specs.SentLaws.{step-sends}
-use Rattle.agreement.specs.Update.{update, update-same, update-other}
+use Rattle.agreement.specs.Ledger.Update.{update, update-same, update-other}
 use Rattle.agreement.specs.Ledger.{Ledger, Said, _⊑_, proposed}
-use Rattle.agreement.specs.LedgerKept.{Kept}
-use Rattle.agreement.specs.LedgerKeeps.{moves-keep}
-use Rattle.agreement.specs.LedgerMoves.{Frame, moves-frame}
+use Rattle.agreement.specs.Ledger.Kept.{Kept}
+use Rattle.agreement.specs.Ledger.Keeps.{moves-keep}
+use Rattle.agreement.specs.Ledger.Frames.{Frame, moves-frame}
 use Rattle.agreement.specs.Majorities.{In, CollectSet}
-use Rattle.agreement.specs.BoxTold.{RoomTold, EventTold, AnswerTold, OutcomeTold}
-use Rattle.agreement.specs.BoxLaws.{idle-told, frame-told}
-use Rattle.agreement.specs.OnSlotTold.{onSlot-told}
+use Rattle.agreement.specs.Box.{RoomTold, EventTold, AnswerTold, OutcomeTold}
+use Rattle.agreement.specs.Box.Laws.{idle-told, frame-told}
+use Rattle.agreement.specs.Box.OnSlot.{onSlot-told}
 use Rattle.agreement.specs.Runs.{World, answerTo, MayCall, ProposesFor}
-use Rattle.agreement.specs.RunKeeps.{BoxKept, RunKept}
-use Rattle.agreement.specs.WorldTold.{Ledgers, WorldTold, CallTold, called-told, after-told}
+use Rattle.agreement.specs.Runs.Keeps.{BoxKept, RunKept}
+use Rattle.agreement.specs.Runs.Told.{Ledgers, WorldTold, CallTold, called-told, after-told}
 
 -- the answer told at whatever it sends
 sent-told : (n : ℕ) (l : Ledger) (a : Answer) (m : Message) → AnswerTold n l a → a ≡ Sends m → EventTold n l (m .event)
