@@ -5,3 +5,4 @@ pub mod Box
 pub mod Runs
 pub mod Finishing
 pub mod Promises
+pub mod Tight

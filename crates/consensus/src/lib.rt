@@ -6,7 +6,6 @@ use ballots::Slot;
 use events::RESTART;
 use events::event_ok;
 use kept::well_kept;
-use layout::SLOTS;
 use layout::TABLE_SIZE;
 use layout::head_of;
 use layout::put_room;
@@ -24,6 +23,9 @@ mod kept; // kept.rt: when a slot is well kept
 mod layout; // layout.rt: where each number of a table stands
 mod on_slot; // on_slot.rt: what each kind of event does to its slot
 mod restart; // restart.rt: what a restart does to a table
+
+// The slots of a table, from 0 on.
+pub const SLOTS: u64 = layout::SLOTS;
 
 // Numbers 0 and 1 of a table: the box count N and the box's own index.
 pub struct Head {

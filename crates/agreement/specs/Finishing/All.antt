@@ -1,5 +1,5 @@
 -- The finishing clause, proved of the step: Propose, then two halves of a round alike, each asking the listed boxes and counting their replies.
--- Relies on FinishAsks and FinishCounts. Cited by the promises and by Reaches.
+-- Relies on Asks and Counts. Cited by the promises and by Reaches.
 use Prim.Native.Nat.{ℕ, _≤_, _<_}
 use mathlib.Core.Path.{_≡_, refl, sym, ap, subst, _∙_}
 use mathlib.Core.Bool.{true}

@@ -1,5 +1,5 @@
 -- A box asks every listed box by a Collect or a Begin under its ballot b: where none has promised above b, each replies to it.
--- One induction for both kinds. Relies on FinishCalls; cited by the proof that a round finishes.
+-- One induction for both kinds. Relies on Calls; cited by the proof that a round finishes.
 use Prim.Native.Nat.{ℕ, _≤_, _<_}
 use mathlib.Core.Path.{_≡_, refl, sym, ap, subst, _∙_}
 use mathlib.Core.List.{List, [], _∷_, map}

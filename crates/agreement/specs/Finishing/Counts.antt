@@ -1,5 +1,5 @@
 -- A box counts the replies of the listed boxes: its round goes on until the last of a smallest majority, which closes it.
--- One induction for Lasts and Accepts. Relies on FinishAsks and the laws of sets of boxes; cited by the proof that a round finishes.
+-- One induction for Lasts and Accepts. Relies on Asks and the laws of sets of boxes; cited by the proof that a round finishes.
 use Prim.Native.Nat.{ℕ, _+_, _≤_, _<_}
 use mathlib.Core.Path.{_≡_, refl, sym, ap, subst, _∙_}
 use mathlib.Core.Bool.{true, false}

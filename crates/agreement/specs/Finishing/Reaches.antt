@@ -1,5 +1,5 @@
 -- Agreement is reached: from the start of n boxes, 1 to 7, there is a run after which a box has a slot agreed.
--- So no promise about agreed values is kept only because none is ever agreed. Relies on FinishAll; cited by the promises.
+-- So no promise about agreed values is kept only because none is ever agreed. Relies on All; cited by the promises.
 use Prim.Native.Nat.{ℕ, zero, suc, _≤_, _<_}
 use mathlib.Core.Path.{_≡_, refl, ap}
 use mathlib.Core.List.{List, [], _∷_}

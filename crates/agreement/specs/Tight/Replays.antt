@@ -1,0 +1,173 @@
+-- Runs written as lists of calls and checked by computing, for any step function; and a disagreement shown by such a run.
+-- Relies on Runs and Promises. Cited by the Tight files.
+use Prim.Native.Nat.{ℕ}
+use mathlib.Core.Path.{_≡_, refl}
+use mathlib.Core.Bool.{Bool, true, false, not, _&&_, _||_, and-eq-true-iff, false≢true}
+use mathlib.Core.List.{List, [], _∷_}
+use mathlib.Core.Logic.{_≢_, _⊎_, inl, inr, ⊎-elim, ⊎-map}
+use lib.Dec.{leb, ltb, eqb, lit<}
+use borrow.Author.Tests.{eqb-true, eqb-false, leb-true, ltb-true, not-true}
+use Rattle.ballots.specs.Ballot.{maxBoxes}
+use Rattle.consensus.specs.declared.Event.{Event}
+use Rattle.consensus.specs.declared.Message.{Message}
+use Rattle.consensus.specs.Events.{propose, restart, event}
+use Rattle.consensus.specs.OnSlot.{allBoxes}
+use Rattle.agreement.specs.Runs.{StepFunction, World, start, Delivered, MayCall, Run, after, says}
+use Rattle.agreement.specs.Runs.Run.{still, _and-then_}
+use Rattle.agreement.specs.Promises.{Promises}
+
+-- ---- tests
+
+-- one test or the other passes
+either : (a b : Bool) → a || b ≡ true → (a ≡ true) ⊎ (b ≡ true)
+either true b e = inl refl
+either false b e = inr e
+
+-- the six numbers are the same
+unfoldable pub sameEvent : Event → Event → Bool
+sameEvent d e =
+    eqb (d .kind) (e .kind) && eqb (d .slot .0) (e .slot .0) && eqb (d .from) (e .from)
+    && eqb (d .ballot .0) (e .ballot .0) && eqb (d .second .0) (e .second .0) && eqb (d .value) (e .value)
+
+same-event : (d e : Event) → sameEvent d e ≡ true → d ≡ e
+unfolding sameEvent
+same-event d e same =
+    let v = and-eq-true-iff _ _ .0 same in
+    let b₂ = and-eq-true-iff _ _ .0 (v .0) in
+    let b = and-eq-true-iff _ _ .0 (b₂ .0) in
+    let f = and-eq-true-iff _ _ .0 (b .0) in
+    let k = and-eq-true-iff _ _ .0 (f .0) in
+    let kind = eqb-true (d .kind) (e .kind) (k .0) in
+    let slot = eqb-true (d .slot .0) (e .slot .0) (k .1) in
+    let from = eqb-true (d .from) (e .from) (f .1) in
+    let ballot = eqb-true (d .ballot .0) (e .ballot .0) (b .1) in
+    let second = eqb-true (d .second .0) (e .second .0) (b₂ .1) in
+    let value = eqb-true (d .value) (e .value) (v .1) in
+    λ i. event (kind i) (slot i) (from i) (ballot i) (second i) (value i)
+
+-- ---- calls that may be made
+
+-- among the messages one carries e, to box i or to all
+unfoldable pub deliverable : ℕ → Event → List Message → Bool
+unfolding sameEvent
+deliverable i e [] = false
+deliverable i e (m ∷ ms) = sameEvent (m .event) e && (eqb (m .to) i || eqb (m .to) allBoxes) || deliverable i e ms
+
+module _ (tables : ℕ → List ℕ) (i : ℕ) (e : Event) where
+  -- e is delivered to box i where these messages were put out
+  abbrev DeliveredFrom : List Message → Type 0
+  DeliveredFrom ms = Delivered (record { tables = tables; parcels = ms }) i e
+
+  from-first : (m : Message) (ms : List Message) → sameEvent (m .event) e && (eqb (m .to) i || eqb (m .to) allBoxes) ≡ true → DeliveredFrom (m ∷ ms)
+  from-first m ms fits =
+      let parts = and-eq-true-iff _ _ .0 fits in
+      record {
+        message = m;
+        put-out = inl refl;
+        carried = same-event (m .event) e (parts .0);
+        addressed = ⊎-map (eqb-true _ _) (eqb-true _ _) (either _ _ (parts .1));
+      }
+
+  from-rest : (m : Message) (ms : List Message) → DeliveredFrom ms → DeliveredFrom (m ∷ ms)
+  from-rest m ms d = record { message = d .message; put-out = inr (d .put-out); carried = d .carried; addressed = d .addressed }
+
+  deliverable-delivered : (ms : List Message) → deliverable i e ms ≡ true → DeliveredFrom ms
+  unfolding deliverable
+  deliverable-delivered [] ok = absurd (false≢true ok)
+  deliverable-delivered (m ∷ ms) ok =
+      ⊎-elim (from-first m ms) (λ later. from-rest m ms (deliverable-delivered ms later)) (either _ _ ok)
+
+-- a box and the event that it is called with
+pub record Call : Type 0 where
+  pub box : ℕ
+  pub event : Event
+
+infix 20 _gets_
+abbrev pub _gets_ : ℕ → Event → Call
+i gets e = record { box = i; event = e }
+
+-- the call may be made in world w, in a run of n boxes
+unfoldable pub mayMake : ℕ → World → Call → Bool
+unfolding deliverable
+mayMake n w c =
+    ltb (c .box) n
+    && (eqb (c .event .kind) propose || eqb (c .event .kind) restart || deliverable (c .box) (c .event) (w .parcels))
+
+may-make : (n : ℕ) (w : World) (c : Call) → mayMake n w c ≡ true → MayCall n w (c .box) (c .event)
+unfolding mayMake
+may-make n w c ok =
+    let parts = and-eq-true-iff _ _ .0 ok in
+    record {
+      a-box = ltb-true _ _ (parts .0);
+      source =
+          ⊎-map (λ outside. ⊎-map (eqb-true _ _) (eqb-true _ _) (either _ _ outside))
+          (deliverable-delivered (w .tables) (c .box) (c .event) (w .parcels))
+          (either _ _ (parts .1));
+    }
+
+-- ---- calls one after the other
+
+module _ (f : StepFunction) where
+  -- the world after the calls
+  unfoldable pub worldAfter : World → List Call → World
+  worldAfter w [] = w
+  worldAfter w (c ∷ cs) = worldAfter (after f w (c .box) (c .event)) cs
+
+  -- each call may be made in its turn
+  unfoldable pub mayMakeAll : ℕ → World → List Call → Bool
+  unfolding mayMake
+  mayMakeAll n w [] = true
+  mayMakeAll n w (c ∷ cs) = mayMake n w c && mayMakeAll n (after f w (c .box) (c .event)) cs
+
+  -- calls that may be made go on with a run
+  pub run-of : (n : ℕ) (v w : World) (cs : List Call) → Run f n v w → mayMakeAll n w cs ≡ true → Run f n v (worldAfter w cs)
+  unfolding worldAfter mayMakeAll
+  run-of n v w [] run ok = run
+  run-of n v w (c ∷ cs) run ok =
+      let parts = and-eq-true-iff _ _ .0 ok in
+      run-of n v (after f w (c .box) (c .event)) cs (_and-then_ run (may-make n w c (parts .0))) (parts .1)
+
+-- ---- a slot with two agreed values
+
+-- a run of some boxes, in two parts, and the boxes that are asked for slot 0: one after the first part, one after both
+pub record Replay : Type 0 where
+  pub boxes : ℕ
+  pub first : List Call
+  pub later : List Call
+  pub one : ℕ
+  pub other : ℕ
+
+-- 1 to 7 boxes make the calls, and the two that are asked say two values
+unfoldable pub disagree : StepFunction → Replay → Bool
+unfolding worldAfter mayMakeAll
+disagree f d =
+    let w = worldAfter f (start (d .boxes)) (d .first) in
+    let u = worldAfter f w (d .later) in
+    leb 1 (d .boxes) && leb (d .boxes) maxBoxes && ltb (d .one) (d .boxes) && ltb (d .other) (d .boxes)
+    && mayMakeAll f (d .boxes) (start (d .boxes)) (d .first) && mayMakeAll f (d .boxes) w (d .later)
+    && not (eqb (says w (d .one) 0) 0) && not (eqb (says u (d .other) 0) 0)
+    && not (eqb (says w (d .one) 0) (says u (d .other) 0))
+
+apart : (a b : ℕ) → not (eqb a b) ≡ true → a ≢ b
+apart a b e = eqb-false a b (not-true (eqb a b) e)
+
+pub disagreement-breaks : (f : StepFunction) (d : Replay) → disagree f d ≡ true → ¬ Promises f
+unfolding disagree
+disagreement-breaks f d shown promises =
+    let w = worldAfter f (start (d .boxes)) (d .first) in
+    let u = worldAfter f w (d .later) in
+    let two = and-eq-true-iff _ _ .0 shown in
+    let at-other = and-eq-true-iff _ _ .0 (two .0) in
+    let at-one = and-eq-true-iff _ _ .0 (at-other .0) in
+    let later = and-eq-true-iff _ _ .0 (at-one .0) in
+    let first = and-eq-true-iff _ _ .0 (later .0) in
+    let other = and-eq-true-iff _ _ .0 (first .0) in
+    let one = and-eq-true-iff _ _ .0 (other .0) in
+    let count = and-eq-true-iff _ _ .0 (one .0) in
+    apart (says w (d .one) 0) (says u (d .other) 0) (two .1)
+    (promises .one-value (d .boxes) w u (d .one) (d .other) 0
+    (record { some = leb-true _ _ (count .0); few = leb-true _ _ (count .1) })
+    (run-of f (d .boxes) _ _ (d .first) still (first .1))
+    (run-of f (d .boxes) _ _ (d .later) still (later .1))
+    (ltb-true _ _ (one .1)) (ltb-true _ _ (other .1)) (lit< tt)
+    (apart _ _ (at-one .1)) (apart _ _ (at-other .1)))
