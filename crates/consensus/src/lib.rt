@@ -6,7 +6,6 @@ use ballots::Slot;
 use events::RESTART;
 use events::event_ok;
 use kept::well_kept;
-use layout::TABLE_SIZE;
 use layout::head_of;
 use layout::put_room;
 use layout::room_at;
@@ -15,6 +14,7 @@ use restart::on_restart;
 ghost use mathlib.Core.Path.{_≡_};
 ghost use Prim.Native.Nat.{_<_, _≤_};
 ghost use lib.ListN.{length};
+ghost use Rattle.ballots.specs.Ballot.{maxBoxes};
 ghost use Rattle.consensus.specs.Layout.{slots, tableSize, headOf};
 ghost use Rattle.consensus.specs.Step.{tableOk, agreedAt, onEvent, step};
 
@@ -24,8 +24,10 @@ mod layout; // layout.rt: where each number of a table stands
 mod on_slot; // on_slot.rt: what each kind of event does to its slot
 mod restart; // restart.rt: what a restart does to a table
 
-// The slots of a table, from 0 on.
+// The slots of a table, from 0 on, and the numbers that it has.
 pub const SLOTS: u64 = layout::SLOTS;
+
+pub const TABLE_SIZE: usize = layout::TABLE_SIZE;
 
 // Numbers 0 and 1 of a table: the box count N and the box's own index.
 pub struct Head {
@@ -123,7 +125,7 @@ pub fn agreed_at(table: &[u64], slot: Slot) -> u64
 
 // An event that names a slot: refused, with nothing written, where the slot is not well kept or the event is not for it.
 fn on_event(table: &mut [u64], event: Event) -> Answer
-    requires { ⌜ (length (now table) ≡ tableSize) × (event .slot .0 < slots) × (headOf (now table) .index < 7) ⌝ }
+    requires { ⌜ (length (now table) ≡ tableSize) × (event .slot .0 < slots) × (headOf (now table) .index < maxBoxes) ⌝ }
     ensures answer { λ r. ⌜ r ≡ onEvent (now (table .entry)) event .answer ⌝ }
     ensures table { λ _. ⌜ now (table .exit) ≡ onEvent (now (table .entry)) event .table ⌝ }
 {

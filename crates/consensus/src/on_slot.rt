@@ -19,6 +19,7 @@ use propose::on_propose;
 use success::on_success;
 ghost use mathlib.Core.Path.{_≡_};
 ghost use Prim.Native.Nat.{_<_};
+ghost use Rattle.ballots.specs.Ballot.{maxBoxes};
 ghost use Rattle.consensus.specs.OnSlot.{onSlot};
 
 mod accept;
@@ -34,7 +35,7 @@ mod success;
 
 // An event of any kind that names a slot.
 pub fn on_slot(head: Head, room: Room, event: Event) -> Outcome
-    requires { ⌜ head .index < 7 ⌝ }
+    requires { ⌜ head .index < maxBoxes ⌝ }
     ensures { λ r. ⌜ r ≡ onSlot head room event ⌝ }
 {
     let kind = event.kind;

@@ -18,10 +18,11 @@ use ballots::Next;
 use ballots::next_ballot;
 ghost use mathlib.Core.Path.{_≡_};
 ghost use Prim.Native.Nat.{_<_};
+ghost use Rattle.ballots.specs.Ballot.{maxBoxes};
 ghost use Rattle.consensus.specs.OnSlot.{onPropose};
 
 pub fn on_propose(head: Head, room: Room, event: Event) -> Outcome
-    requires { ⌜ head .index < 7 ⌝ }
+    requires { ⌜ head .index < maxBoxes ⌝ }
     ensures { λ r. ⌜ r ≡ onPropose head room event ⌝ }
 {
     if room.agreed != 0 {
