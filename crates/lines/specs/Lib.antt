@@ -9,4 +9,5 @@ pub mod TextLaws
 pub mod DigitLaws
 pub mod ReadLaws
 pub mod RecordLaws
+pub mod WriteLaws
 pub mod Cases

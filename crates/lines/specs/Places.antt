@@ -21,7 +21,3 @@ numbersPlaced false ns = noNumbers
 -- the buffer with a text at a place
 abbrev pub textAt : List ℕ → ℕ → List ℕ → List ℕ
 textAt buffer at text = take at buffer ++ text ++ drop (at + length text) buffer
-
--- lines have few enough numbers that their lengths add up
-abbrev pub mostNumbers : ℕ
-mostNumbers = 1000

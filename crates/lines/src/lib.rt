@@ -1,6 +1,6 @@
-// Lines of text: a record of seven decimal numbers is read from one line and written as one line.
-// Relies on specs/Text, specs/Read and specs/Write, which the contracts cite. Only the two public
-// functions know that a record is seven numbers.
+// Lines of text: a record of seven decimal numbers is read from one line and written as one line, and so are
+// numbers of any count. Relies on specs/Text, specs/Read and specs/Write, which the contracts cite. Only
+// read_record and write_record know that a record is seven numbers.
 ghost use mathlib.Core.Path.{_≡_};
 ghost use mathlib.Core.List.{_++_};
 ghost use Prim.Native.Nat.{_+_, _<_, _≤_};
@@ -8,7 +8,7 @@ ghost use lib.ListN.{length, drop};
 ghost use Rattle.lines.specs.Text.{digit, numberText, lineText, endByte};
 ghost use Rattle.lines.specs.Read.{moreDigits, readNumber, readNumbers, readRecord};
 ghost use Rattle.lines.specs.Write.{writtenRecord, writtenBuffer};
-ghost use Rattle.lines.specs.Places.{numberPlaced, numbersPlaced, textAt, mostNumbers};
+ghost use Rattle.lines.specs.Places.{numberPlaced, numbersPlaced, textAt};
 
 // The answers of refused lines and refused writes.
 const BAD_LINE: u64 = 8;
@@ -34,7 +34,7 @@ pub struct Reading {
     pub numbers: [u64; 7],
 }
 
-// What writing a record gives: answer 0 and the line's length, or answer 9 and 0.
+// What writing a line gives: answer 0 and the line's length, or answer 9 and 0.
 pub struct Written {
     pub answer: u64,
     pub length: usize,
@@ -60,15 +60,20 @@ pub fn write_record(numbers: [u64; 7], out: &mut [u8]) -> Written
     ensures answer { λ r. ⌜ r ≡ writtenRecord numbers (now (out .entry)) ⌝ }
     ensures buffer { λ _. ⌜ now (out .exit) ≡ writtenBuffer numbers (now (out .entry)) ⌝ }
 {
-    let length = line_length(&numbers);
-    if out.len() < length {
-        return Written {
-            answer: SHORT_BUFFER,
-            length: 0,
-        };
+    write_numbers(&numbers, out)
+}
+
+// Writes a line of any count of numbers at the front of the buffer, if the buffer can hold it.
+pub fn write_numbers(numbers: &[u64], out: &mut [u8]) -> Written
+    ensures answer { λ r. ⌜ r ≡ writtenRecord (now (numbers .entry)) (now (out .entry)) ⌝ }
+    ensures buffer { λ _. ⌜ now (out .exit) ≡ writtenBuffer (now (numbers .entry)) (now (out .entry)) ⌝ }
+{
+    let written = measure(numbers, out);
+    if written.answer != 0 {
+        return written;
     }
-    put_line(&numbers, out);
-    Written { answer: 0, length }
+    put_line(numbers, out);
+    written
 }
 
 // What stands at a place of a line: a number and the place after it, or no number.
@@ -175,18 +180,27 @@ fn width(n: u64) -> usize
     digits
 }
 
-// The length of a line of numbers.
-fn line_length(numbers: &[u64]) -> usize
-    requires { ⌜ length (now numbers) ≤ mostNumbers ⌝ }
-    ensures { λ r. ⌜ r ≡ length (lineText (now (numbers .entry))) ⌝ }
+// What writing a line of numbers gives: the buffer's room is counted down, so that no sum can overflow.
+fn measure(numbers: &[u64], out: &[u8]) -> Written
+    ensures { λ r. ⌜ r ≡ writtenRecord (now (numbers .entry)) (now (out .entry)) ⌝ }
 {
-    let mut sum = 0;
+    let mut room = out.len();
     let mut i = 0;
     while i < numbers.len() {
-        sum = sum + width(numbers[i]) + 1;
+        let digits = width(numbers[i]);
+        if room <= digits {
+            return Written {
+                answer: SHORT_BUFFER,
+                length: 0,
+            };
+        }
+        room = room - digits - 1;
         i += 1;
     }
-    sum
+    Written {
+        answer: 0,
+        length: out.len() - room,
+    }
 }
 
 // The byte of a digit.

@@ -25,5 +25,4 @@ pub mod StepKeeps
 pub mod GivenWhen
 pub mod SlotAnswers
 pub mod AnswerLaws
-pub mod OneAnswer
 pub mod SentLaws

@@ -1,0 +1,5 @@
+-- The lemmas that the functions' proofs cite.
+mod Tested
+mod Fresh
+mod Newlines
+mod Answered
