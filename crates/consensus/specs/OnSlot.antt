@@ -59,18 +59,25 @@ better r e = if ltb (bestBallot r) (e .second .0) then vote (e .second .0) (e .v
 abbrev pub toBegin : Room → Vote → ℕ
 toBegin r best = if eqb (best .ballot .0) 0 then ownValue r else best .value
 
+-- the sender counted: the round goes on collecting
+abbrev pub collectsOn : Room → Vote → ℕ → Room
+collectsOn r best counted = room (r .saved) (round collecting (r .round .own) best counted (accepts r)) (agreed r)
+
+-- "phase 2; numbers 6 to 9 zero; Begin b with own value to all"
+abbrev pub begins : Head → Room → Event → ℕ → Outcome
+begins h r e v =
+    Becomes (room (r .saved) (round begun (vote (ownBallot r) v) noVote 0 0) (agreed r))
+    (send h e allBoxes begin (ownBallot r) 0 v)
+
 -- "Last b. For phase 1 with own ballot b and a sender not yet counted: count it; ... If the counted are now a majority:
 -- own value becomes best value where best ballot is not zero; phase 2; numbers 6 to 9 zero; Begin b with own value to all."
 unfoldable pub onLast : Head → Room → Event → Outcome
 onLast h r e =
     let counted = withBox (lasts r) (e .from) in
     let best = better r e in
-    let v = toBegin r best in
     if not (awaited r e collecting (lasts r)) then Refused NotAwaited
-    else if not (enoughToCollect h counted) then
-    Becomes (room (r .saved) (round collecting (r .round .own) best counted (accepts r)) (agreed r)) Quiet
-    else Becomes (room (r .saved) (round begun (vote (ownBallot r) v) noVote 0 0) (agreed r))
-    (send h e allBoxes begin (ownBallot r) 0 v)
+    else if not (enoughToCollect h counted) then Becomes (collectsOn r best counted) Quiet
+    else begins h r e (toBegin r best)
 
 -- "Begin b, v. If b is below promised, as for Collect. Otherwise promised and accepted ballot become b, accepted value v; Accept b to the sender."
 unfoldable pub onBegin : Head → Room → Event → Outcome
@@ -79,15 +86,22 @@ onBegin h r e =
     else Becomes (room (saved (e .ballot .0) (vote (e .ballot .0) (e .value))) (r .round) (agreed r))
     (send h e (e .from) accept (e .ballot .0) 0 0)
 
+-- the sender counted: the round goes on
+abbrev pub begunOn : Room → ℕ → Room
+begunOn r counted = room (r .saved) (round begun (r .round .own) (r .round .best) (lasts r) counted) (agreed r)
+
+-- "agreed value becomes own value, numbers 3 to 9 zero, Success with that value to all"
+abbrev pub agrees : Head → Room → Event → Outcome
+agrees h r e = Becomes (room (r .saved) noRound (ownValue r)) (send h e allBoxes success 0 0 (ownValue r))
+
 -- "Accept b. For phase 2 with own ballot b and a sender not yet counted: count it. At a majority: agreed value becomes
 -- own value, numbers 3 to 9 zero, Success with that value to all."
 unfoldable pub onAccept : Head → Room → Event → Outcome
 onAccept h r e =
     let counted = withBox (accepts r) (e .from) in
     if not (awaited r e begun (accepts r)) then Refused NotAwaited
-    else if not (enoughToBegin h counted) then
-    Becomes (room (r .saved) (round begun (r .round .own) (r .round .best) (lasts r) counted) (agreed r)) Quiet
-    else Becomes (room (r .saved) noRound (ownValue r)) (send h e allBoxes success 0 0 (ownValue r))
+    else if not (enoughToBegin h counted) then Becomes (begunOn r counted) Quiet
+    else agrees h r e
 
 -- "Success v. If nothing is agreed: agreed value becomes v, numbers 3 to 9 zero, no message." 4 where v is agreed already, 6 where another value is.
 unfoldable pub onSuccess : Head → Room → Event → Outcome

@@ -18,7 +18,7 @@ use crate::kept::enough_to_collect;
 use ballots::Ballot;
 use ballots::boxes::with_box;
 ghost use mathlib.Core.Path.{_≡_};
-ghost use Rattle.consensus.specs.OnSlot.{better, toBegin, onLast};
+ghost use Rattle.consensus.specs.OnSlot.{better, toBegin, collectsOn, begins, onLast};
 
 // The best report: the event's where its second exceeds the best ballot.
 fn better(room: Room, event: Event) -> Vote
@@ -48,42 +48,42 @@ fn to_begin(room: Room, best: Vote) -> u64
     if ballot.0 == 0 { own.value } else { best.value }
 }
 
-pub fn on_last(head: Head, room: Room, event: Event) -> Outcome
-    ensures { λ r. ⌜ r ≡ onLast head room event ⌝ }
+// The sender counted: the round goes on collecting.
+fn collects_on(room: Room, best: Vote, counted: u64) -> Room
+    ensures { λ r. ⌜ r ≡ collectsOn room best counted ⌝ }
 {
     let saved = room.saved;
     let round = room.round;
     let own = round.own;
-    if !awaited(room, event, COLLECTING, round.lasts) {
-        return Outcome::Refused(Answer::NotAwaited);
+    let next = Round {
+        phase: COLLECTING,
+        own: own,
+        best: best,
+        lasts: counted,
+        accepts: round.accepts,
+    };
+    Room {
+        saved: saved,
+        round: next,
+        agreed: room.agreed,
     }
-    let counted = with_box(round.lasts, event.from);
-    let best = better(room, event);
-    if !enough_to_collect(head, counted) {
-        let next = Round {
-            phase: COLLECTING,
-            own: own,
-            best: best,
-            lasts: counted,
-            accepts: round.accepts,
-        };
-        return Outcome::Becomes(
-            Room {
-                saved: saved,
-                round: next,
-                agreed: room.agreed,
-            },
-            Answer::Quiet,
-        );
-    }
-    let value = to_begin(room, best);
+}
+
+// Enough were counted: the round begins with a value.
+fn begins(head: Head, room: Room, event: Event, value: u64) -> Outcome
+    ensures { λ r. ⌜ r ≡ begins head room event value ⌝ }
+{
+    let saved = room.saved;
+    let round = room.round;
+    let own = round.own;
     let ballot = own.ballot;
+    let begun = Vote {
+        ballot: ballot,
+        value: value,
+    };
     let next = Round {
         phase: BEGUN,
-        own: Vote {
-            ballot: ballot,
-            value: value,
-        },
+        own: begun,
         best: no_vote(),
         lasts: 0,
         accepts: 0,
@@ -97,4 +97,19 @@ pub fn on_last(head: Head, room: Room, event: Event) -> Outcome
         },
         answer,
     )
+}
+
+pub fn on_last(head: Head, room: Room, event: Event) -> Outcome
+    ensures { λ r. ⌜ r ≡ onLast head room event ⌝ }
+{
+    let round = room.round;
+    if !awaited(room, event, COLLECTING, round.lasts) {
+        return Outcome::Refused(Answer::NotAwaited);
+    }
+    let counted = with_box(round.lasts, event.from);
+    let best = better(room, event);
+    if !enough_to_collect(head, counted) {
+        return Outcome::Becomes(collects_on(room, best, counted), Answer::Quiet);
+    }
+    begins(head, room, event, to_begin(room, best))
 }

@@ -18,6 +18,9 @@ with-box-requires c κs = search needs
 enough-to-begin-requires : tie.Need-enough-to-begin-requires
 enough-to-begin-requires c κs = search needs
 
+begun-on-requires : tie.Need-begun-on-requires
+begun-on-requires c κs = search needs
+
 returns-2 : tie.Need-returns-2
 unfolding onAccept
 returns-2 c =
@@ -26,24 +29,21 @@ returns-2 c =
       passed (d .before .before .awaited .ensures) (d .before .if1 .left),
       ← d .with-box .ensures,
       failed (c .before .before .enough-to-begin .ensures) (c .before .if2 .taken),
+      c .begun-on .ensures,
     )
 
-send-requires : tie.Need-send-requires
-send-requires c κs = search needs
-
-no-round-requires : tie.Need-no-round-requires
-no-round-requires c κs = search needs
+agrees-requires : tie.Need-agrees-requires
+agrees-requires c κs = search needs
 
 returns-3 : tie.Need-returns-3
 unfolding onAccept
 returns-3 c =
-    let d = c .before .before .before .before in
+    let d = c .before .before .before in
     simp (
       passed (d .before .before .awaited .ensures) (d .before .if1 .left),
       ← d .with-box .ensures,
-      passed (c .before .before .before .enough-to-begin .ensures) (c .before .before .if2 .left),
-      c .before .send .ensures,
-      c .no-round .ensures,
+      passed (c .before .before .enough-to-begin .ensures) (c .before .if2 .left),
+      c .agrees .ensures,
     )
 
 pub on-accept-spec : {M : Type 1} → statement M
@@ -54,7 +54,7 @@ on-accept-spec =
     returns
     with-box-requires
     enough-to-begin-requires
+    begun-on-requires
     returns-2
-    send-requires
-    no-round-requires
+    agrees-requires
     returns-3)

@@ -21,39 +21,38 @@ better-requires c κs = search needs
 enough-to-collect-requires : tie.Need-enough-to-collect-requires
 enough-to-collect-requires c κs = search needs
 
+collects-on-requires : tie.Need-collects-on-requires
+collects-on-requires c κs = search needs
+
 returns-2 : tie.Need-returns-2
 unfolding onLast
 returns-2 c =
-    let d = c .before .before .before in
+    let d = c .before .before .before .before in
     simp (
       passed (d .before .before .awaited .ensures) (d .before .if1 .left),
       ← d .with-box .ensures,
-      failed (c .before .enough-to-collect .ensures) (c .if2 .taken),
-      c .before .before .better .ensures,
+      failed (c .before .before .enough-to-collect .ensures) (c .before .if2 .taken),
+      c .collects-on .ensures,
+      c .before .before .before .better .ensures,
     )
 
 to-begin-requires : tie.Need-to-begin-requires
 to-begin-requires c κs = search needs
 
-no-vote-requires : tie.Need-no-vote-requires
-no-vote-requires c κs = search needs
-
-send-requires : tie.Need-send-requires
-send-requires c κs = search needs
+begins-requires : tie.Need-begins-requires
+begins-requires c κs = search needs
 
 returns-3 : tie.Need-returns-3
 unfolding onLast
 returns-3 c =
-    let d = c .before .before .before .before in
-    let f = d .before .before .before in
+    let d = c .before .before .before .before .before in
     simp (
-      passed (f .before .before .awaited .ensures) (f .before .if1 .left),
-      ← f .with-box .ensures,
-      passed (d .before .enough-to-collect .ensures) (d .if2 .left),
-      d .before .before .better .ensures,
-      c .before .before .before .to-begin .ensures,
-      c .before .no-vote .ensures,
-      c .send .ensures,
+      passed (d .before .before .awaited .ensures) (d .before .if1 .left),
+      ← d .with-box .ensures,
+      passed (c .before .before .before .enough-to-collect .ensures) (c .before .before .if2 .left),
+      c .begins .ensures,
+      c .before .to-begin .ensures,
+      c .before .before .before .before .better .ensures,
     )
 
 pub on-last-spec : {M : Type 1} → statement M
@@ -65,8 +64,8 @@ on-last-spec =
     with-box-requires
     better-requires
     enough-to-collect-requires
+    collects-on-requires
     returns-2
     to-begin-requires
-    no-vote-requires
-    send-requires
+    begins-requires
     returns-3)
