@@ -1,4 +1,4 @@
 // The replay program: answers to the log on standard input.
 fn main() {
-    stream::replay_input();
+    replaying::replay_input();
 }

@@ -1,2 +1,2 @@
--- The lemmas that the functions' proofs cite.
-mod Within
+-- The lemma that the functions' proofs cite.
+mod Parts

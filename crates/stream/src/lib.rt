@@ -1,197 +1,69 @@
-// The replay of the rules: a header and records come in on standard input, and the answers' lines go out on standard output.
-// Relies on calls for every line; here bytes are only read, cut into lines, gathered and written.
-use ballots::MAX_BOXES;
-use consensus::TABLE_SIZE;
+// Standard input line by line and standard output by the buffer, both of any length, in constant memory.
+// Relies on calls for the end of a line and for the line of a bad line. The programs lend the buffers.
 use libc::STDIN_FILENO;
 use libc::STDOUT_FILENO;
-ghost use mathlib.Core.Path.{_≡_};
-ghost use Prim.Native.Nat.{_*_, _≤_};
-ghost use Rattle.ballots.specs.Ballot.{maxBoxes};
-ghost use Rattle.consensus.specs.Layout.{tableSize};
+ghost use Prim.Native.Nat.{_+_, _≤_};
 ghost use lib.ListN.{length};
+ghost use Rattle.stream.specs.Places.{PlacedIn};
 
-const BUFFER_SIZE: usize = 65536;
+// Output is written out when there is less room than this: no line of a program's output is longer.
+const ROOM: usize = 256;
 
-// The tables of seven boxes.
-const ALL_TABLES: usize = 7 * TABLE_SIZE;
-
-const HEADER_LENGTH: usize = 8;
-
-const LONGEST_RECORD: usize = 147;
-
-const LONGEST_ANSWER: usize = 168;
-
-// Why answering stops: no whole line is left, no room is left for an answer, or a line is bad.
-const ALL_TAKEN: u64 = 0;
-
-const NO_ROOM: u64 = 1;
-
-const BAD: u64 = 2;
-
-// How far answering got: the bytes taken, the room used, the number of the next line, and why it stopped.
-struct Progress {
-    taken: usize,
-    used: usize,
-    number: u64,
-    why: u64,
+// The next line: it stands from the first place up to the second, and the bytes read so far end at the third.
+// Or the line is bad: too long, or the input ends in it. Or the input has ended.
+pub enum Line {
+    At(usize, usize, usize),
+    Bad,
+    None,
 }
 
-// Replays standard input onto standard output.
-pub fn replay_input() {
-    let mut input = [0u8; BUFFER_SIZE];
-    let mut out = [0u8; BUFFER_SIZE];
-    let mut tables = [0u64; ALL_TABLES];
-    replay(&mut input, &mut tables, &mut out);
-}
-
-// The header, and then the records.
-fn replay(input: &mut [u8], tables: &mut [u64], out: &mut [u8])
-    requires { ⌜ (8 ≤ length (now input)) × (maxBoxes * tableSize ≤ length (now tables)) ⌝ }
+// The line that starts at `at`, where the bytes read so far end at `end`: of at most `most` bytes. More is read where its newline is not there.
+pub fn next_line(input: &mut [u8], at: usize, end: usize, most: usize) -> Line
+    ensures { λ r. ⌜ PlacedIn (length (now (input .entry))) r ⌝ }
 {
-    let have = first_bytes(input);
-    if have < HEADER_LENGTH {
-        finish(out, 0, 1);
-        return;
+    let mut from = at;
+    let mut to = end;
+    if input.len() < to {
+        return Line::Bad;
     }
-    let boxes = calls::boxes_of(&input[0..HEADER_LENGTH]);
-    if boxes == 0 {
-        finish(out, 0, 1);
-        return;
+    if to < from {
+        return Line::Bad;
     }
-    if MAX_BOXES < boxes {
-        return;
-    }
-    let size = boxes as usize * TABLE_SIZE;
-    calls::fresh_tables(boxes, &mut tables[0..size]);
-    records(input, have, boxes, &mut tables[0..size], out);
-}
-
-// Reads until a header's bytes are there, or the input ends, and gives how many there are.
-fn first_bytes(input: &mut [u8]) -> usize
-    requires { ⌜ 8 ≤ length (now input) ⌝ }
-    ensures { λ r. ⌜ r ≤ length (now (input .entry)) ⌝ }
-{
-    let mut have = 0;
-    while have < HEADER_LENGTH {
-        let next = more(input, have);
-        if next <= have {
-            return have;
+    loop {
+        let length = line_within(input, from, to, most);
+        if 0 < length {
+            return Line::At(from, from + length, to);
         }
-        have = next;
-    }
-    have
-}
-
-// Reads once, behind the first `have` bytes, and gives how many there are then.
-fn more(input: &mut [u8], have: usize) -> usize
-    requires { ⌜ have ≤ length (now input) ⌝ }
-    ensures { λ r. ⌜ (have ≤ r) × (r ≤ length (now (input .entry))) ⌝ }
-{
-    let space = &mut input[have..];
-    let got = libc::read(STDIN_FILENO, space);
-    have + io::count(got, space)
-}
-
-// The records behind the header, to the end of the input or the first bad line. The input need not end, so the turns are counted
-// down from a number that no run uses up.
-fn records(input: &mut [u8], have: usize, boxes: u64, tables: &mut [u64], out: &mut [u8])
-    requires { ⌜ (8 ≤ have) × (have ≤ length (now input)) ⌝ }
-{
-    let mut at = HEADER_LENGTH;
-    let mut end = have;
-    let mut used = 0;
-    let mut number = 2;
-    let mut turns = u64::MAX;
-    while 0 < turns {
-        turns -= 1;
-        let p = answer_lines(&input[at..end], number, boxes, tables, out, used);
-        at = at + p.taken;
-        used = p.used;
-        number = p.number;
-        if p.why == BAD {
-            finish(out, used, number);
-            return;
+        let kept = to - from;
+        if most <= kept {
+            return Line::Bad;
         }
-        if p.why == NO_ROOM {
-            io::write_all(STDOUT_FILENO, &out[0..used]);
-            used = 0;
-            continue;
-        }
-        slide(input, at, end);
-        let kept = end - at;
-        end = more(input, kept);
-        at = 0;
-        if end <= kept {
-            last(out, used, number, kept);
-            return;
+        slide(input, from, to);
+        from = 0;
+        to = more(input, kept);
+        if to <= kept {
+            return ended(kept);
         }
     }
 }
 
-// The answers of the whole lines of some bytes go behind the first `used` bytes of `out`.
-fn answer_lines(
-    bytes: &[u8],
-    first: u64,
-    boxes: u64,
-    tables: &mut [u64],
-    out: &mut [u8],
-    before: usize,
-) -> Progress
-    requires { ⌜ before ≤ length (now out) ⌝ }
-    ensures { λ r. ⌜ (r .taken ≤ length (now (bytes .entry))) × (r .used ≤ length (now (out .entry))) ⌝ }
+// What the end of the input makes of the bytes that are left.
+fn ended(left: usize) -> Line
+    ensures { λ r. ⌜ PlacedIn 0 r ⌝ }
 {
-    let mut taken = 0;
-    let mut used = before;
-    let mut number = first;
-    while taken < bytes.len() {
-        if out.len() - used < LONGEST_ANSWER {
-            return stopped(taken, used, number, NO_ROOM);
-        }
-        let end = line_end(bytes, taken);
-        if end <= taken {
-            return stopped(taken, used, number, unfinished(bytes.len() - taken));
-        }
-        let called = calls::call(&bytes[taken..end], boxes, tables, &mut out[used..]);
-        if called.answer != 0 {
-            return stopped(taken, used, number, BAD);
-        }
-        used = used + called.length;
-        taken = end;
-        number = std::num::wrapping_add_u64(number, 1);
-    }
-    stopped(taken, used, number, ALL_TAKEN)
+    if 0 < left { Line::Bad } else { Line::None }
 }
 
-fn stopped(taken: usize, used: usize, number: u64, why: u64) -> Progress
-    ensures { λ r. ⌜ (r .taken ≡ taken) × (r .used ≡ used) ⌝ }
+// The length of the line at `from`, if its newline is among the next `most` bytes up to `to`, or 0.
+fn line_within(input: &[u8], from: usize, to: usize, most: usize) -> usize
+    requires { ⌜ (from ≤ to) × (to ≤ length (now input)) ⌝ }
+    ensures { λ r. ⌜ from + r ≤ to ⌝ }
 {
-    Progress {
-        taken,
-        used,
-        number,
-        why,
+    if to - from < most {
+        return calls::line_length(&input[from..to]);
     }
-}
-
-// Whether bytes with no newline can still become a record.
-fn unfinished(left: usize) -> u64 {
-    if left < LONGEST_RECORD {
-        ALL_TAKEN
-    } else {
-        BAD
-    }
-}
-
-// The place after the line at `at`, or `at` where no newline stands among the bytes of a longest record.
-fn line_end(bytes: &[u8], at: usize) -> usize
-    requires { ⌜ at ≤ length (now bytes) ⌝ }
-    ensures { λ r. ⌜ (at ≤ r) × (r ≤ length (now (bytes .entry))) ⌝ }
-{
-    if bytes.len() - at < LONGEST_RECORD {
-        return at + calls::line_length(&bytes[at..]);
-    }
-    let stop = at + LONGEST_RECORD;
-    at + calls::line_length(&bytes[at..stop])
+    let stop = from + most;
+    calls::line_length(&input[from..stop])
 }
 
 // Moves the bytes from `from` up to `to` to the front.
@@ -205,23 +77,40 @@ fn slide(input: &mut [u8], from: usize, to: usize)
     }
 }
 
-// The end of the input: bytes that are left have no newline, which makes a bad line of them.
-fn last(out: &mut [u8], used: usize, number: u64, left: usize)
-    requires { ⌜ used ≤ length (now out) ⌝ }
+// Reads once, behind the first `have` bytes, and gives how many there are then.
+fn more(input: &mut [u8], have: usize) -> usize
+    requires { ⌜ have ≤ length (now input) ⌝ }
+    ensures { λ r. ⌜ (have ≤ r) × (r ≤ length (now (input .entry))) ⌝ }
 {
-    if 0 < left {
-        finish(out, used, number);
-    } else {
+    let space = &mut input[have..];
+    let got = libc::read(STDIN_FILENO, space);
+    have + io::count(got, space)
+}
+
+// Writes out the first `used` bytes where little room is left, and gives how many are still to be written.
+pub fn make_room(out: &[u8], used: usize) -> usize
+    ensures { λ r. ⌜ r ≤ length (now (out .entry)) ⌝ }
+{
+    if out.len() < used {
+        return 0;
+    }
+    if ROOM <= out.len() - used {
+        return used;
+    }
+    io::write_all(STDOUT_FILENO, &out[0..used]);
+    0
+}
+
+// Writes out the first `used` bytes.
+pub fn flush(out: &[u8], used: usize) {
+    if used <= out.len() {
         io::write_all(STDOUT_FILENO, &out[0..used]);
     }
 }
 
-// Writes the answers so far, and that the line of this number is bad.
-fn finish(out: &mut [u8], used: usize, number: u64)
-    requires { ⌜ used ≤ length (now out) ⌝ }
-{
-    io::write_all(STDOUT_FILENO, &out[0..used]);
+// Writes out the first `used` bytes, and that the line of this number is bad.
+pub fn stop_at(number: u64, out: &mut [u8], used: usize) {
+    flush(out, used);
     let written = calls::bad_line(number, out);
-    let length = written.length;
-    io::write_all(STDOUT_FILENO, &out[0..length]);
+    flush(out, written.length);
 }

@@ -1,4 +1,4 @@
 // The replay program once more, run on the rules' whole case.
 fn main() {
-    stream::replay_input();
+    replaying::replay_input();
 }

@@ -1,5 +1,6 @@
 -- `stream::slide` is safe and ends.
--- Relies on nothing. Cited by the proof of records.
+-- Relies on nothing. Cited by the proof of next_line.
+use borrow.Author.Needs.{needs}
 use native.Mathlib.Omega.{arith}
 use lib.ListN.{length, length-set}
 use mathlib.Core.Path.{_≡_}
@@ -38,7 +39,7 @@ same-length : tie.Need-same-length Inv-loop μ-loop
 same-length c = omega arith
 
 returns : tie.Need-returns Inv-loop μ-loop
-returns c = omega arith
+returns c = search needs
 
 pub slide-spec : {M : Type 1} → statement M
 slide-spec =

@@ -1,0 +1,2 @@
+-- The lemmas that the proof of records cites.
+mod Within
