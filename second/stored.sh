@@ -30,7 +30,6 @@ stored_in() {
 }
 
 check() {
-    local room
     room=$(mktemp -d)
     trap 'rm -rf "$room"' EXIT
     stored_in "$room"

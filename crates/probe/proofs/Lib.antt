@@ -1,0 +1,2 @@
+-- What holds between two lines of a probe.
+mod Going
