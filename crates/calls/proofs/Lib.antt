@@ -1,5 +1,5 @@
 -- The lemmas that the functions' proofs cite.
-mod Tested
+-- Fresh is for the tables, Newlines for the first line, Answered for a record and a call.
 mod Fresh
 mod Newlines
 mod Answered

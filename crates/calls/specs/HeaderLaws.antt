@@ -1,12 +1,14 @@
--- What a header tells: its length and the range of its N; and the N of each header.
+-- What a header tells: its length and the range of its N; the N of each header, and of any line.
 -- Relies on Header. Cited by the proof of boxes_of, and for whoever reads a header.
 use Prim.Native.Nat.{ℕ, _≤_}
 use mathlib.Core.Path.{_≡_, refl}
 use mathlib.Core.Bool.{true, and-eq-true-iff}
 use mathlib.Core.List.{List, [], _∷_, map}
 use lib.ListN.{length}
+use native.Mathlib.Omega.{arith}
 use borrow.Author.Tests.{eqb-true, leb-true}
 use Rattle.lines.specs.Text.{tab, newline, digit}
+use Rattle.lines.specs.ByTest.{by-test}
 use Rattle.calls.specs.Header.{headerLength, boxesByte, saysBoxes, isHeader, boxesOf}
 
 pub record HeaderParts (line : List ℕ) : Type 0 where
@@ -33,3 +35,9 @@ pub headers-name-their-boxes :
     map (λ n. boxesOf (headerText n)) (0 ∷ 1 ∷ 2 ∷ 3 ∷ 4 ∷ 5 ∷ 6 ∷ 7 ∷ 8 ∷ []) ≡ 0 ∷ 1 ∷ 2 ∷ 3 ∷ 4 ∷ 5 ∷ 6 ∷ 7 ∷ 0 ∷ []
 unfolding boxesOf isHeader saysBoxes
 headers-name-their-boxes = refl
+
+-- a line names at most seven boxes
+pub boxes-at-most-seven : (line : List ℕ) → boxesOf line ≤ 7
+unfolding boxesOf
+boxes-at-most-seven line =
+    by-test (λ (n : ℕ). n ≤ 7) (isHeader line) _ _ (λ e. omega (arith, header-parts line e .to-seven)) (λ _. omega arith)

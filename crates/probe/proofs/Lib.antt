@@ -1,2 +1,3 @@
--- What holds between two lines of a probe.
+-- What the functions' proofs cite.
+-- Going is what holds between two lines.
 mod Going

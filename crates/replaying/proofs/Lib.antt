@@ -1,2 +1,3 @@
--- The lemmas that the proof of records cites.
+-- The lemmas that the functions' proofs cite.
+-- Within is for what stays within the buffers.
 mod Within

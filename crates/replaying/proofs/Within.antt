@@ -1,13 +1,18 @@
--- An answer's line stays within the part of the buffer that it was put into, and what holds between two lines.
--- Relies on the laws of calls. Cited by the proof of records.
+-- A header names few boxes, an answer's line stays within its part of the buffer, and what holds between two lines.
+-- Relies on the laws of calls. Cited by the proofs of replay and records.
 use Prim.Native.Nat.{ℕ, _+_, _≤_, _<_, _^_}
 use mathlib.Core.Path.{_≡_, ap}
 use mathlib.Core.List.{List}
 use native.Mathlib.Omega.{arith}
 use lib.ListN.{length, take, drop, length-take}
 use Rattle.calls.specs.declared.Called.{Called}
+use Rattle.calls.specs.Header.{boxesOf}
+use Rattle.calls.specs.HeaderLaws.{boxes-at-most-seven}
 use Rattle.calls.specs.Call.{call}
 use Rattle.calls.specs.CallLaws.{length-within}
+
+pub few-boxes : (line : List ℕ) (n : ℕ) → n ≡ boxesOf line → n ≤ 7
+few-boxes line n e = omega (arith, boxes-at-most-seven line)
 
 pub answer-in : (line : List ℕ) (boxes : ℕ) (tables out : List ℕ) (used count : ℕ) (r : Called) →
     used + count ≤ length out → r ≡ call line boxes tables (take count (drop used out)) .called → used + r .length ≤ length out

@@ -1,6 +1,5 @@
 // The replay of the rules: a header and records come in on standard input, and the answers' lines go out on standard output.
 // Relies on stream for the lines and on calls for what each of them does; nothing here knows a record or an answer.
-use ballots::MAX_BOXES;
 use consensus::TABLE_SIZE;
 use stream::Line;
 ghost use Prim.Native.Nat.{_*_, _≤_};
@@ -36,9 +35,6 @@ fn replay(input: &mut [u8], tables: &mut [u64], out: &mut [u8])
     let boxes = calls::boxes_of(&input[start..end]);
     if boxes == 0 {
         stream::stop_at(1, out, 0);
-        return;
-    }
-    if MAX_BOXES < boxes {
         return;
     }
     let size = boxes as usize * TABLE_SIZE;

@@ -3,7 +3,7 @@
 use native.Mathlib.Omega.{arith}
 use Rattle.calls.specs.Header.{boxesOf}
 use Rattle.calls.specs.HeaderLaws.{header-parts}
-use Rattle.calls.proofs.Tested.{failed, passed}
+use Rattle.consensus.proofs.Tested.{failed, passed}
 use borrow.Author.Needs.{needs}
 use Rattle.calls.proofs.boxes_of.Statement.{statement}
 use Rattle.calls.proofs.boxes_of.Tie as tie

@@ -1,7 +1,7 @@
 -- `calls::call` meets its contract: the tests pick the case of the definition.
 -- Relies on what the callees ensure and proofs/Answered. Cited by the check alone.
 use Rattle.calls.proofs.Answered.{no-tables, no-record, no-room, answers}
-use Rattle.calls.proofs.Tested.{failed, passed}
+use Rattle.consensus.proofs.Tested.{failed, passed}
 use Rattle.calls.specs.TablesLaws.{tables-parts}
 use borrow.Author.Needs.{needs}
 use Rattle.calls.proofs.call.Statement.{statement}

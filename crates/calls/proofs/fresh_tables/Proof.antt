@@ -2,7 +2,7 @@
 -- Relies on proofs/Fresh and on what fresh_table ensures. Cited by the check alone.
 use lib.ListN.{length-take, length-drop}
 use Rattle.calls.proofs.Fresh.{FreshSoFar, none-fresh, one-more-fresh, all-fresh}
-use Rattle.calls.proofs.Tested.{failed, passed}
+use Rattle.consensus.proofs.Tested.{failed, passed}
 use Rattle.calls.specs.TablesLaws.{tables-parts}
 use Rattle.calls.specs.Tables.{tableStart, freshTables}
 use Rattle.consensus.specs.Layout.{tableSize}

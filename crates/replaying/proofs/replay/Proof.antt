@@ -1,5 +1,6 @@
--- `replaying::replay` is safe: the header's places are within the buffer.
--- Relies on what next_line ensures. Cited by the proof of main.
+-- `replaying::replay` is safe: the header's places are within the buffer, and the tables of its boxes within theirs.
+-- Relies on what next_line and boxes_of ensure. Cited by the proof of main.
+use Rattle.replaying.proofs.Within.{few-boxes}
 use Rattle.stream.specs.PlacesLaws.{placed}
 use native.Mathlib.Omega.{arith}
 use lib.ListN.{length}
@@ -67,14 +68,10 @@ same-length-4 c = search needs
 returns-2 : tie.Need-returns-2
 returns-2 c = search needs
 
-same-length-5 : tie.Need-same-length-5
-same-length-5 c = search needs
-
-returns-3 : tie.Need-returns-3
-returns-3 c = search needs
-
 mul-size : tie.Need-mul-size
-mul-size c = search needs
+mul-size c =
+    let h = c .before in
+    omega (arith, few-boxes _ (h .boxes-of .result) (h .boxes-of .ensures))
 
 sub-fresh-tables : tie.Need-sub-fresh-tables
 sub-fresh-tables c = search needs
@@ -83,7 +80,9 @@ part-fresh-tables-start : tie.Need-part-fresh-tables-start
 part-fresh-tables-start c = search needs
 
 part-fresh-tables-end : tie.Need-part-fresh-tables-end
-part-fresh-tables-end c = search needs
+part-fresh-tables-end c =
+    let h = c .before in
+    omega (arith, few-boxes _ (h .boxes-of .result) (h .boxes-of .ensures))
 
 fresh-tables-requires : tie.Need-fresh-tables-requires
 fresh-tables-requires c κs = search needs
@@ -95,10 +94,15 @@ part-records-start : tie.Need-part-records-start
 part-records-start c = search needs
 
 part-records-end : tie.Need-part-records-end
-part-records-end c = search needs
+part-records-end c =
+    let h = c .before .before .before .before .before .before in
+    omega (arith, few-boxes _ (h .boxes-of .result) (h .boxes-of .ensures))
 
 records-requires : tie.Need-records-requires
 records-requires c κs = search needs
+
+same-length-5 : tie.Need-same-length-5
+same-length-5 c = search needs
 
 same-length-6 : tie.Need-same-length-6
 same-length-6 c = search needs
@@ -106,11 +110,8 @@ same-length-6 c = search needs
 same-length-7 : tie.Need-same-length-7
 same-length-7 c = search needs
 
-same-length-8 : tie.Need-same-length-8
-same-length-8 c = search needs
-
-returns-4 : tie.Need-returns-4
-returns-4 c = search needs
+returns-3 : tie.Need-returns-3
+returns-3 c = search needs
 
 pub replay-spec : {M : Type 1} → statement M
 replay-spec =
@@ -130,8 +131,6 @@ replay-spec =
     same-length-3
     same-length-4
     returns-2
-    same-length-5
-    returns-3
     mul-size
     sub-fresh-tables
     part-fresh-tables-start
@@ -141,7 +140,7 @@ replay-spec =
     part-records-start
     part-records-end
     records-requires
+    same-length-5
     same-length-6
     same-length-7
-    same-length-8
-    returns-4)
+    returns-3)
