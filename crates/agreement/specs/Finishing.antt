@@ -8,13 +8,17 @@ use lib.ListN.{length}
 use Rattle.ballots.specs.Ballot.{maxBoxes, maxX, nextX, nextBallot}
 use Rattle.ballots.specs.Boxes.{smallestMajority}
 use Rattle.consensus.specs.declared.Event.{Event}
+use Rattle.consensus.specs.declared.Message.{Message}
 use Rattle.consensus.specs.Layout.{slots}
-use Rattle.consensus.specs.Events.{propose, collect, last, begin, accept, event}
+use Rattle.consensus.specs.Events.{propose, collect, last, begin, accept, success, event}
+use Rattle.consensus.specs.OnSlot.{allBoxes}
 use Rattle.consensus.specs.Answers.{answerNumber}
-use Rattle.agreement.specs.Runs.{StepFunction, World, start, MayCall, Run, answerTo, after, says, hasPromised}
+use Rattle.agreement.specs.Runs.{StepFunction, World, start, Among, MayCall, Run, answerTo, after, says, hasPromised, hasAccepted}
 pub mod Calls
 pub mod Asks
 pub mod Counts
+pub mod Highest
+pub mod Halves
 pub mod All
 pub mod Reaches
 
@@ -35,6 +39,10 @@ pub record OrderOf (boxes order : List ℕ) : Type 0 where
   pub all-listed : (q : ℕ) → Listed q boxes → Listed q order
   pub only-listed : (q : ℕ) → Listed q order → Listed q boxes
 
+-- e on its way to box i
+abbrev pub parcel : ℕ → Event → Message
+parcel i e = record { to = i; event = e }
+
 -- who is called with which kind of event from whom
 pub record Turn : Type 0 where
   pub box : ℕ
@@ -44,12 +52,20 @@ pub record Turn : Type 0 where
 abbrev pub turn : ℕ → ℕ → ℕ → Turn
 turn i k q = record { box = i; kind = k; from = q }
 
--- the calls turn by turn, from one world to another: each may be made, is about slot s, answers 0, and finds nothing agreed at box p
-pub data Turns (f : StepFunction) (n p s : ℕ) : World → List Turn → World → Type 0 where
-  none : {w : World} → Turns f n p s w [] w
+-- the call with e at box i may be made, is about slot s and ballot b, answers 0, and finds nothing agreed at box p
+pub record TakesTurn (f : StepFunction) (n p s b : ℕ) (w : World) (i : ℕ) (e : Event) : Type 0 where
+  pub may : MayCall n w i e
+  pub of-slot : e .slot .0 ≡ s
+  pub of-ballot : e .ballot .0 ≡ b
+  pub answered : answerNumber (answerTo f w i e) ≡ 0
+  pub nothing-agreed : says w p s ≡ 0
+
+-- the calls turn by turn, from one world to another
+pub data Turns (f : StepFunction) (n p s b : ℕ) : World → List Turn → World → Type 0 where
+  none : {w : World} → Turns f n p s b w [] w
   next :
-      {w u : World} {i : ℕ} {ts : List Turn} (e : Event) → MayCall n w i e → e .slot .0 ≡ s → answerNumber (answerTo f w i e) ≡ 0 → says w p s ≡ 0 →
-      Turns f n p s (after f w i e) ts u → Turns f n p s w (turn i (e .kind) (e .from) ∷ ts) u
+      {w u : World} {i : ℕ} {ts : List Turn} (e : Event) → TakesTurn f n p s b w i e →
+      Turns f n p s b (after f w i e) ts u → Turns f n p s b w (turn i (e .kind) (e .from) ∷ ts) u
 
 -- Propose v for slot s
 abbrev pub proposal : ℕ → ℕ → Event
@@ -76,15 +92,25 @@ pub record MayFinish (n : ℕ) (w : World) (p s v : ℕ) (boxes : List ℕ) : Ty
   pub all-boxes : (q : ℕ) → Listed q boxes → q < n
   pub nothing-as-high : (q : ℕ) → Listed q boxes → hasPromised w q s < nextBallot (hasPromised w p s) p
 
--- Propose answers 0, and so does each of the 4M calls after it; p has the slot agreed after the last and after none before
-pub record Finishes (f : StepFunction) (n : ℕ) (w : World) (p s v : ℕ) (q₁ q₂ q₃ q₄ : List ℕ) : Type 0 where
+-- u is the accepted value of the highest accepted ballot for slot s among the boxes, or v where none of them has accepted one
+pub record HighestAccepted (w : World) (s : ℕ) (boxes : List ℕ) (v u : ℕ) : Type 0 where
+  pub none-accepted : ((q : ℕ) → Listed q boxes → hasAccepted w q s .ballot .0 ≡ 0) → u ≡ v
+  pub highest :
+      (q : ℕ) → Listed q boxes → hasAccepted w q s .ballot .0 ≢ 0 →
+      ((r : ℕ) → Listed r boxes → hasAccepted w r s .ballot .0 ≤ hasAccepted w q s .ballot .0) → u ≡ hasAccepted w q s .value
+
+-- Propose answers 0, and so does each of the 4M calls after it, each with a message of the new ballot; p has the slot agreed after the
+-- last and after none before, with the value that the boxes' accepted ones ask for, and Success with it has been put out to all
+pub record Finishes (f : StepFunction) (n : ℕ) (w : World) (p s v : ℕ) (boxes q₁ q₂ q₃ q₄ : List ℕ) : Type 0 where
   pub proposed : answerNumber (answerTo f w p (proposal s v)) ≡ 0
   pub end : World
-  pub turns : Turns f n p s (after f w p (proposal s v)) (replies p q₁ q₂ q₃ q₄) end
+  pub turns : Turns f n p s (nextBallot (hasPromised w p s) p) (after f w p (proposal s v)) (replies p q₁ q₂ q₃ q₄) end
   pub agreed : says end p s ≢ 0
+  pub agreed-value : HighestAccepted w s boxes v (says end p s)
+  pub told-to-all : Among (parcel allBoxes (event success s p 0 0 (says end p s))) (end .parcels)
 
 -- "then Propose followed by M Collects, M Lasts, M Begins and M Accepts between it and those M agrees a value on exactly the call numbered 4M + 1"
 pub record FinishesAll (f : StepFunction) : Type 0 where
   pub finishes :
       (n : ℕ) (w : World) (p s v : ℕ) (boxes q₁ q₂ q₃ q₄ : List ℕ) → 1 ≤ n → n ≤ maxBoxes → Run f n (start n) w → MayFinish n w p s v boxes →
-      OrderOf boxes q₁ → OrderOf boxes q₂ → OrderOf boxes q₃ → OrderOf boxes q₄ → Finishes f n w p s v q₁ q₂ q₃ q₄
+      OrderOf boxes q₁ → OrderOf boxes q₂ → OrderOf boxes q₃ → OrderOf boxes q₄ → Finishes f n w p s v boxes q₁ q₂ q₃ q₄

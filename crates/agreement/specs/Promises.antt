@@ -2,21 +2,25 @@
 -- Each promise is stated on its own; each proof cites its lemma.
 use Prim.Native.Nat.{ℕ, _≤_, _<_}
 use mathlib.Core.Path.{_≡_}
+use mathlib.Core.Bool.{true}
 use mathlib.Core.Logic.{_≢_, _⊎_, ⊎-elim}
 use native.Mathlib.Omega.{arith}
-use Rattle.ballots.specs.Ballot.{maxBoxes}
+use Rattle.ballots.specs.Ballot.{maxBoxes, xOf}
 use Rattle.consensus.specs.declared.Event.{Event}
 use Rattle.consensus.specs.Layout.{slots}
+use Rattle.consensus.specs.Events.{success, restart, eventOk}
 use Rattle.consensus.specs.Answers.{answerNumber}
 use Rattle.consensus.specs.Step.{step}
-use Rattle.agreement.specs.Runs.{StepFunction, World, start, Delivered, MayCall, Run, ProposedIn, RestartedIn, answerTo, says}
+use Rattle.agreement.specs.Runs.{StepFunction, World, start, Delivered, MayCall, Run, ProposedIn, proposalsIn, RestartedIn, Forgets, answerTo, after, says, hasPromised}
 use Rattle.agreement.specs.Runs.Keeps.{reachable-kept, call-never-answers-3, delivered-answers}
 use Rattle.agreement.specs.Runs.Agrees
 use Rattle.agreement.specs.Runs.Stays
 use Rattle.agreement.specs.Runs.NeverSix.{never-six}
+use Rattle.agreement.specs.Runs.Low
+use Rattle.agreement.specs.Runs.Heeds
 use Rattle.agreement.specs.Finishing.{FinishesAll}
 use Rattle.agreement.specs.Finishing.All.{finishes-all}
-use Rattle.agreement.specs.Finishing.Reaches.{box-0-agrees-slot-0}
+use Rattle.agreement.specs.Finishing.Reaches.{reaches-agreement}
 
 -- 1 to 7 boxes
 pub record Count (n : ℕ) : Type 0 where
@@ -47,9 +51,26 @@ NeverAnswers f =
     (answerNumber (answerTo f w i e) ≢ 3) × (answerNumber (answerTo f w i e) ≢ 6)
     × (Delivered w i e → (answerNumber (answerTo f w i e) ≢ 1) × (answerNumber (answerTo f w i e) ≢ 2))
 
--- f. For each number of boxes some run reaches agreement.
+-- f. For each number of boxes, any box, slot and value: some run reaches agreement on that value at that box.
 abbrev pub SomeRunAgrees : StepFunction → Type 0
-SomeRunAgrees f = (n : ℕ) → Count n → (end : World) × Run f n (start n) end × (says end 0 0 ≢ 0)
+SomeRunAgrees f =
+    (n p s v : ℕ) → Count n → p < n → s < slots → v ≢ 0 → (end : World) × Run f n (start n) end × (says end p s ≡ v)
+
+-- g. Promises stay low: the x of a box's promise, in any slot, is at most the number of Proposes that the run answered with 0.
+abbrev pub PromisesStayLow : StepFunction → Type 0
+PromisesStayLow f =
+    (n : ℕ) (w : World) (i s : ℕ) → Count n → (run : Run f n (start n) w) → i < n → s < slots → xOf (hasPromised w i s) ≤ proposalsIn run
+
+-- h. A Success that is delivered to a box which says nothing of the slot leaves it saying that value.
+abbrev pub SuccessIsHeard : StepFunction → Type 0
+SuccessIsHeard f =
+    (n : ℕ) (w : World) (i : ℕ) (e : Event) → Count n → Run f n (start n) w → i < n → Delivered w i e → e .kind ≡ success →
+    says w i (e .slot .0) ≡ 0 → says (after f w i e) i (e .slot .0) ≡ e .value
+
+-- i. A Restart that keeps the section on events answers 0, keeps numbers 0 to 2 of every slot and leaves the box saying nothing.
+abbrev pub RestartIsDone : StepFunction → Type 0
+RestartIsDone f =
+    (n : ℕ) (w : World) (i : ℕ) (e : Event) → Count n → Run f n (start n) w → i < n → e .kind ≡ restart → eventOk n e ≡ true → Forgets f w i e
 
 -- e. is `FinishesAll`: a majority that has promised nothing as high as a new ballot finishes, on exactly the call numbered 4M + 1.
 pub record Promises (f : StepFunction) : Type 0 where
@@ -59,6 +80,9 @@ pub record Promises (f : StepFunction) : Type 0 where
   pub never-answers : NeverAnswers f
   pub finishes : FinishesAll f
   pub some-run-agrees : SomeRunAgrees f
+  pub promises-stay-low : PromisesStayLow f
+  pub success-is-heard : SuccessIsHeard f
+  pub restart-is-done : RestartIsDone f
 
 pub step-keeps-promises : Promises step
 step-keeps-promises =
@@ -73,7 +97,8 @@ step-keeps-promises =
             λ delivered. ⊎-elim (λ zero. omega arith) (λ past. omega arith) (delivered-answers n w i e kept (may .a-box) delivered),
           );
       finishes = finishes-all;
-      some-run-agrees = λ n count.
-          let reached = box-0-agrees-slot-0 n (count .some) (count .few) in
-          (reached .end, reached .run, reached .agreed);
+      some-run-agrees = λ n p s v count. reaches-agreement n p s v (count .some) (count .few);
+      promises-stay-low = λ n w i s count run box. Low.promises-stay-low n w i s run;
+      success-is-heard = λ n w i e count. Heeds.success-is-heard n (count .some) (count .few) w i e;
+      restart-is-done = λ n w i e count. Heeds.restart-is-done n (count .some) (count .few) w i e;
     }

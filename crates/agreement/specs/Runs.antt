@@ -1,17 +1,20 @@
 -- Runs of boxes: worlds, the calls that may be made in them, and what can be seen of a box.
 -- Over any step function, so that the promises can be asked of a wrong one too. Cited by every promise.
-use Prim.Native.Nat.{ℕ, _<_}
+use Prim.Native.Nat.{ℕ, _+_, _<_}
 use mathlib.Core.Path.{_≡_}
-use mathlib.Core.Bool.{cond}
+use mathlib.Core.Bool.{Bool, _&&_}
 use mathlib.Core.Logic.{_⊎_}
 use mathlib.Core.List.{List, [], _∷_}
 use lib.Dec.{eqb}
+use Rattle.consensus.specs.declared.Vote.{Vote}
+use Rattle.consensus.specs.declared.Saved.{Saved}
 use Rattle.consensus.specs.declared.Event.{Event}
 use Rattle.consensus.specs.declared.Message.{Message}
 use Rattle.consensus.specs.declared.Answer.{Answer}
 use Rattle.consensus.specs.declared.Answer.the-variants.{Quiet, Sends, BadTable, BadEvent, NotWellKept, NotAwaited, AlreadyAgreed, OtherAgreed, NoBallotLeft}
-use Rattle.consensus.specs.Room.{agreed, promised}
-use Rattle.consensus.specs.Layout.{fresh, roomAt}
+use Rattle.consensus.specs.Choice.{if_then_else_}
+use Rattle.consensus.specs.Room.{agreed}
+use Rattle.consensus.specs.Layout.{slots, fresh, roomAt}
 use Rattle.consensus.specs.Events.{propose, restart}
 use Rattle.consensus.specs.Answers.{answerNumber}
 use Rattle.consensus.specs.OnSlot.{allBoxes}
@@ -22,6 +25,8 @@ pub mod Call
 pub mod Agrees
 pub mod Stays
 pub mod NeverSix
+pub mod Heeds
+pub mod Low
 
 -- a box's table and an event give the new table and an answer
 abbrev pub StepFunction : Type 0
@@ -66,7 +71,7 @@ withMessage NoBallotLeft ps = ps
 
 -- t at box i, and the other boxes as they were
 abbrev pub withTable : (ℕ → List ℕ) → ℕ → List ℕ → ℕ → List ℕ
-withTable tables i t j = cond (eqb j i) t (tables j)
+withTable tables i t j = if eqb j i then t else tables j
 
 module _ (f : StepFunction) where
   -- what a call with e at box i answers, and the world after it
@@ -102,15 +107,47 @@ abbrev pub ProposedIn : {f : StepFunction} {n : ℕ} {w u : World} → Run f n w
 ProposedIn still s v = ⊥
 ProposedIn {f} (_and-then_ {u = u} {i = i} {e = e} run may) s v = ProposedIn run s v ⊎ ProposesFor f u i e s v
 
+-- the call with e at box i in world w is a Propose, and answers 0
+abbrev pub proposes : StepFunction → World → ℕ → Event → Bool
+proposes f w i e = eqb (e .kind) propose && eqb (answerNumber (answerTo f w i e)) 0
+
+-- how many calls of the run were Proposes that answered 0
+abbrev pub proposalsIn : {f : StepFunction} {n : ℕ} {w u : World} → Run f n w u → ℕ
+proposalsIn still = 0
+proposalsIn {f} (_and-then_ {u = u} {i = i} {e = e} run may) = proposalsIn run + (if proposes f u i e then 1 else 0)
+
+-- the call with e at box i in world w is a Restart of box j, and answers 0
+pub record RestartsBox (f : StepFunction) (w : World) (i : ℕ) (e : Event) (j : ℕ) : Type 0 where
+  pub a-restart : e .kind ≡ restart
+  pub this-box : i ≡ j
+  pub answered : answerNumber (answerTo f w i e) ≡ 0
+
 -- some call of the run restarted box j
 abbrev pub RestartedIn : {f : StepFunction} {n : ℕ} {w u : World} → Run f n w u → ℕ → Type 0
 RestartedIn still j = ⊥
-RestartedIn (_and-then_ {i = i} {e = e} run may) j = RestartedIn run j ⊎ ((e .kind ≡ restart) × (i ≡ j))
+RestartedIn {f} (_and-then_ {u = u} {i = i} {e = e} run may) j = RestartedIn run j ⊎ RestartsBox f u i e j
+
+-- every call of the run was at a box of a set
+abbrev pub CalledOnly : {f : StepFunction} {n : ℕ} {w u : World} → (ℕ → Type 0) → Run f n w u → Type 0
+CalledOnly boxes still = Unit {0}
+CalledOnly boxes (_and-then_ {i = i} run may) = CalledOnly boxes run × boxes i
 
 -- what a box says of a slot: its agreed value, zero for nothing
 abbrev pub says : World → ℕ → ℕ → ℕ
 says w i s = agreed (roomAt (w .tables i) s)
 
--- what a box has promised in a slot
+-- what a box has saved of a slot: numbers 0 to 2, its promise and what it has accepted
+abbrev pub hasSaved : World → ℕ → ℕ → Saved
+hasSaved w i s = roomAt (w .tables i) s .saved
+
 abbrev pub hasPromised : World → ℕ → ℕ → ℕ
-hasPromised w i s = promised (roomAt (w .tables i) s)
+hasPromised w i s = hasSaved w i s .promised .0
+
+abbrev pub hasAccepted : World → ℕ → ℕ → Vote
+hasAccepted w i s = hasSaved w i s .accepted
+
+-- the call with e at box i answers 0, keeps numbers 0 to 2 of every slot there and leaves the box saying nothing
+pub record Forgets (f : StepFunction) (w : World) (i : ℕ) (e : Event) : Type 0 where
+  pub answered : answerNumber (answerTo f w i e) ≡ 0
+  pub keeps-saved : (s : ℕ) → s < slots → hasSaved (after f w i e) i s ≡ hasSaved w i s
+  pub says-nothing : (s : ℕ) → s < slots → says (after f w i e) i s ≡ 0

@@ -1,10 +1,10 @@
 -- Laws of the board: which answers occur and when, and what a command can change.
--- Relies on Board. Cited by the proofs of the functions, by PrefixLaws, and by whoever promises something of the board.
+-- Relies on Board. Cited by the proofs of the functions, by PrefixLaws and OwnerLaws, and by whoever promises something of the board.
 use Prim.Native.Nat.{ℕ, _+_, _≤_, _<_}
-use mathlib.Core.Path.{_≡_, refl, ap, _∙_}
+use mathlib.Core.Path.{_≡_, refl, sym, ap, _∙_}
 use mathlib.Core.Bool.{Bool, true, false, not, true≢false, false≢true, and-false}
 use mathlib.Core.List.{List}
-use mathlib.Core.Logic.{_↔_}
+use mathlib.Core.Logic.{_↔_, _⊎_, inl, inr}
 use native.Mathlib.Omega.{arith}
 use native.Mathlib.Decide.{decLe, ℕ-discrete}
 use native.Mathlib.Nat.{lt-of-not-le}
@@ -13,6 +13,7 @@ use lib.ListN.{getD}
 use borrow.Author.Tests.{ltb-true, ltb-false, lt-ltb, le-ltb, eq-eqb, ne-eqb}
 use Rattle.consensus.specs.Choice.{if_then_else_}
 use Rattle.consensus.specs.Step.{tableOk}
+use Rattle.step_laws.specs.ByTest.{by-answer}
 use Rattle.board.specs.declared.Command.{Command}
 use Rattle.board.specs.declared.Entry.{Entry}
 use Rattle.board.specs.declared.BoardAnswer.{BoardAnswer}
@@ -78,6 +79,14 @@ module _ (table : List ℕ) (link : ℕ) where
   unfolding boardOf
   link-is-answered ok within = simp (ok, le-ltb lastLink link within)
 
+  -- an answer about a link is the entry that the known prefix makes
+  pub answered : (e : Entry) → boardOf table link ≡ Link e → e ≡ entryOf (knownPrefix table) link
+  unfolding boardOf
+  answered e answer =
+      by-answer (tableOk table)
+      (λ good. by-answer (ltb lastLink link) (λ far. cc (simp (good, far) at answer)) (λ near. cc (simp (good, near) at answer)))
+      (λ bad. cc (simp bad at answer))
+
 -- ---- what a command does to a free link and to an owned one
 
 module _ (e : Entry) (c : Command) where
@@ -129,6 +138,10 @@ pub record Revises (e : Entry) (link : ℕ) (c : Command) : Type 0 where
   pub names-present : c .revision ≡ e .revision
   pub below-last : e .revision < lastRevision
 
+-- the two commands that change an entry
+abbrev pub ClaimsOrRevises : Entry → ℕ → Command → Type 0
+ClaimsOrRevises e link c = Claims e link c ⊎ Revises e link c
+
 -- what a command does to the entry of a link: nothing, or it takes the link, or it is the owner's
 pub data Effect (e : Entry) (link : ℕ) (c : Command) : Type 0 where
   stays : obeyed e link c ≡ e → Effect e link c
@@ -164,6 +177,12 @@ module _ (e : Entry) (link : ℕ) (c : Command) where
   revision-is-obeyed h =
       owned-link-is-revised (h .names-link) (λ none. h .is-owned (omega (arith, h .by-owner))) (h .is-owned)
       ∙ owner-revises e c (h .by-owner) (h .names-present) (h .below-last)
+
+  -- neither of the two leaves the entry as it was
+  pub claim-or-revision-changes : ClaimsOrRevises e link c → obeyed e link c ≡ e → ⊥
+  claim-or-revision-changes (inl h) same =
+      h .some-author (ap (λ (x : Entry). x .owner) (sym (claim-is-obeyed h) ∙ same) ∙ h .is-free)
+  claim-or-revision-changes (inr h) same = omega (arith, ap (λ (x : Entry). x .revision) (sym (revision-is-obeyed h) ∙ same))
 
   effect-on-free : c .link ≡ link → (c .author ≡ 0 → ⊥) → e .owner ≡ 0 → Effect e link c
   effect-on-free this some unowned =

@@ -4,5 +4,6 @@ pub mod Board
 pub mod BoardLaws
 pub mod RunLaws
 pub mod PrefixLaws
+pub mod OwnerLaws
 pub mod BoardRuns
 pub mod Cases

@@ -18,9 +18,9 @@ use Rattle.board.specs.BoardLaws.{stays, claims, revises, effect}
 
 -- ---- along the commands of a list
 
--- a free link's revision is 0
-abbrev pub ZeroIfFree : Entry → Type 0
-ZeroIfFree e = e .owner ≡ 0 → e .revision ≡ 0
+-- "three zeros when free": an entry without owner is free
+abbrev pub FreeIfUnowned : Entry → Type 0
+FreeIfUnowned e = e .owner ≡ 0 → e ≡ free
 
 -- y is x, or a later revision of it
 abbrev pub SameOrLater : Entry → Entry → Type 0
@@ -38,39 +38,47 @@ same-or-later-trans (inl xy) (inr yz) = inr (omega (arith, revision-of xy))
 same-or-later-trans (inr xy) (inl yz) = inr (omega (arith, revision-of yz))
 same-or-later-trans (inr xy) (inr yz) = inr (omega arith)
 
-pub command-keeps-zero-if-free : (e : Entry) (link : ℕ) (c : Command) → ZeroIfFree e → ZeroIfFree (obeyed e link c)
-command-keeps-zero-if-free e link c zero-if-free unowned =
+pub command-keeps-free-if-unowned : (e : Entry) (link : ℕ) (c : Command) → FreeIfUnowned e → FreeIfUnowned (obeyed e link c)
+command-keeps-free-if-unowned e link c free-if-unowned unowned =
     elim (effect e link c) [
-      | stays same ↦ revision-of same ∙ zero-if-free (sym (owner-of same) ∙ unowned)
+      | stays same ↦ same ∙ free-if-unowned (sym (owner-of same) ∙ unowned)
       | claims h becomes ↦ absurd (h .some-author (sym (owner-of becomes) ∙ unowned))
       | revises h becomes ↦ absurd (h .is-owned (sym (owner-of becomes) ∙ unowned))
     ]
 
-pub command-is-same-or-later : (e : Entry) (link : ℕ) (c : Command) → ZeroIfFree e → SameOrLater e (obeyed e link c)
-command-is-same-or-later e link c zero-if-free =
+pub command-is-same-or-later : (e : Entry) (link : ℕ) (c : Command) → FreeIfUnowned e → SameOrLater e (obeyed e link c)
+command-is-same-or-later e link c free-if-unowned =
     elim (effect e link c) [
       | stays same ↦ inl same
-      | claims h becomes ↦ inr (omega (arith, zero-if-free (h .is-free), revision-of becomes))
+      | claims h becomes ↦ inr (omega (arith, revision-of (free-if-unowned (h .is-free)), revision-of becomes))
       | revises h becomes ↦ inr (omega (arith, revision-of becomes))
     ]
 
-pub commands-keep-zero-if-free : (e : Entry) (link : ℕ) (values : List ℕ) → ZeroIfFree e → ZeroIfFree (appliedAll e link values)
-commands-keep-zero-if-free e link [] zero-if-free = zero-if-free
-commands-keep-zero-if-free e link (v ∷ vs) zero-if-free =
-    commands-keep-zero-if-free (applied e link v) link vs (command-keeps-zero-if-free e link (commandOf v) zero-if-free)
+pub commands-keep-free-if-unowned : (e : Entry) (link : ℕ) (values : List ℕ) → FreeIfUnowned e → FreeIfUnowned (appliedAll e link values)
+commands-keep-free-if-unowned e link [] free-if-unowned = free-if-unowned
+commands-keep-free-if-unowned e link (v ∷ vs) free-if-unowned =
+    commands-keep-free-if-unowned (applied e link v) link vs (command-keeps-free-if-unowned e link (commandOf v) free-if-unowned)
 
-pub commands-are-same-or-later : (e : Entry) (link : ℕ) (values : List ℕ) → ZeroIfFree e → SameOrLater e (appliedAll e link values)
-commands-are-same-or-later e link [] zero-if-free = inl refl
-commands-are-same-or-later e link (v ∷ vs) zero-if-free =
-    same-or-later-trans (command-is-same-or-later e link (commandOf v) zero-if-free)
-    (commands-are-same-or-later (applied e link v) link vs (command-keeps-zero-if-free e link (commandOf v) zero-if-free))
+pub commands-are-same-or-later : (e : Entry) (link : ℕ) (values : List ℕ) → FreeIfUnowned e → SameOrLater e (appliedAll e link values)
+commands-are-same-or-later e link [] free-if-unowned = inl refl
+commands-are-same-or-later e link (v ∷ vs) free-if-unowned =
+    same-or-later-trans (command-is-same-or-later e link (commandOf v) free-if-unowned)
+    (commands-are-same-or-later (applied e link v) link vs (command-keeps-free-if-unowned e link (commandOf v) free-if-unowned))
 
 -- ---- a prefix of the values
 
+-- the longer of two prefixes makes what its further commands make of the shorter's entry
+pub entry-of-longer : (p q : List ℕ) (link : ℕ) (h : IsPrefix p q) → entryOf q link ≡ appliedAll (entryOf p link) link (h .0)
+entry-of-longer p q link h = rw (← h .1) (foldl-append (λ (e : Entry) (value : ℕ). applied e link value) free p (h .0))
+
+-- what some values make without an owner is free
+pub unowned-entry-is-free : (p : List ℕ) (link : ℕ) → FreeIfUnowned (entryOf p link)
+unowned-entry-is-free p link = commands-keep-free-if-unowned free link p (λ none. refl)
+
 pub longer-prefix-same-or-later : (p q : List ℕ) (link : ℕ) → IsPrefix p q → SameOrLater (entryOf p link) (entryOf q link)
 longer-prefix-same-or-later p q link h =
-    rw (← h .1, foldl-append (λ (e : Entry) (value : ℕ). applied e link value) free p (h .0))
-    (commands-are-same-or-later (entryOf p link) link (h .0) (commands-keep-zero-if-free free link p (λ z. refl)))
+    rw (entry-of-longer p q link h)
+    (commands-are-same-or-later (entryOf p link) link (h .0) (unowned-entry-is-free p link))
 
 same-revision : {x y : Entry} → SameOrLater x y → x .revision ≡ y .revision → x ≡ y
 same-revision (inl same) e = sym same

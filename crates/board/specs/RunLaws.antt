@@ -4,6 +4,7 @@ use Prim.Native.Nat.{ℕ, zero, suc, _+_, _≤_, _<_}
 use mathlib.Core.Path.{_≡_, refl, sym, ap, _∙_}
 use mathlib.Core.Bool.{Bool, true, false}
 use mathlib.Core.List.{List, [], _∷_}
+use native.Mathlib.Nat.{zero-add}
 use native.Mathlib.Omega.{arith}
 use lib.Dec.{eqb}
 use lib.ListN.{length, getD}
@@ -59,3 +60,7 @@ run-is-longest-from agreed (suc left) slot =
 
 pub run-is-longest : (agreed : ℕ → ℕ) → LongestFrom agreed 0 slots (agreedRun agreed)
 run-is-longest agreed = run-is-longest-from agreed slots 0
+
+-- each value of the known prefix is what its slot has agreed
+pub known-value-is-agreed : (agreed : ℕ → ℕ) (i : ℕ) → i < length (agreedRun agreed) → getD (agreedRun agreed) i 0 ≡ agreed i
+known-value-is-agreed agreed i below = run-is-longest agreed .holds-agreed i below .0 ∙ ap agreed (zero-add i)

@@ -1,14 +1,16 @@
 -- The laws of the step on a table: it keeps the table's length and head, every well kept slot well kept, and every slot
--- but the event's as it was; a restart restarts every slot; a refusal leaves all as it was.
+-- but the event's as it was; a restart restarts every slot; a refusal leaves all as it was, and so does a ballot that is too old.
 -- Relies on StepCases and the law of each kind. Cited by proofs about runs.
 use Prim.Native.Nat.{ℕ, _<_}
 use mathlib.Core.Path.{_≡_, sym, ap, _∙_, subst}
 use mathlib.Core.Bool.{true, true≢false}
 use mathlib.Core.List.{List}
-use mathlib.Core.Logic.{_≢_}
+use mathlib.Core.Logic.{_≢_, _⊎_, inl, inr}
 use native.Mathlib.Decide.{ℕ-discrete}
 use native.Mathlib.Nat.{le-refl}
+use native.Mathlib.Omega.{arith}
 use lib.ListN.{length}
+use borrow.Author.Tests.{lt-ltb}
 use Rattle.consensus.specs.declared.Head.{Head}
 use Rattle.consensus.specs.declared.Room.{Room}
 use Rattle.consensus.specs.declared.Event.{Event}
@@ -16,12 +18,13 @@ use Rattle.consensus.specs.declared.Message.{Message}
 use Rattle.consensus.specs.declared.Answer.the-variants.{Quiet, Sends}
 use Rattle.consensus.specs.declared.Outcome.{Outcome}
 use Rattle.consensus.specs.declared.Outcome.the-variants.{Becomes, Refused}
+use Rattle.consensus.specs.Room.{promised}
 use Rattle.consensus.specs.Layout.{slots, headOf, roomAt}
 use Rattle.consensus.specs.WellKept.{savedKept, wellKept}
-use Rattle.consensus.specs.Events.{restart}
-use Rattle.consensus.specs.OnSlot.{restarted}
-use Rattle.consensus.specs.Step.{Stepped, step}
-use Rattle.step_laws.specs.LayoutLaws.{length-restartSlots, headOf-restartSlots, roomAt-restarted}
+use Rattle.consensus.specs.Events.{collect, begin, restart}
+use Rattle.consensus.specs.OnSlot.{tooOld, onCollect, onBegin, restarted, onSlot}
+use Rattle.consensus.specs.Step.{Stepped, settle, step}
+use Rattle.step_laws.specs.LayoutLaws.{withRoom-roomAt, length-restartSlots, headOf-restartSlots, roomAt-restarted}
 use Rattle.step_laws.specs.HeadLaws.{table-clauses}
 use Rattle.step_laws.specs.EventLaws.{names-a-slot}
 use Rattle.step_laws.specs.OutcomeLaws.{Keeps}
@@ -88,6 +91,32 @@ refusal-leaves-all t e refusal =
 
 pub refused-as-it-was : (t : List ℕ) (e : Event) → step t e .answer ≢ Quiet → ((m : Message) → step t e .answer ≢ Sends m) → step t e .table ≡ t
 refused-as-it-was t e not-quiet sends-none = refusal-leaves-all t e (neither-is-refusal (step t e .answer) not-quiet sends-none)
+
+-- ---- a ballot that is too old
+
+-- "If b is below promised, as for Collect": Collect and Begin alike
+too-old-at-slot : (h : Head) (r : Room) (e : Event) → (e .kind ≡ collect) ⊎ (e .kind ≡ begin) → e .ballot .0 < promised r
+    → onSlot h r e ≡ tooOld h r e
+unfolding onSlot onCollect onBegin
+too-old-at-slot h r e (inl k) old = simp (k, lt-ltb (e .ballot .0) (promised r) old)
+too-old-at-slot h r e (inr k) old = simp (k, lt-ltb (e .ballot .0) (promised r) old)
+
+-- "If b is below promised: OldRound to the sender with ballot b and second the promised ballot; table unchanged."
+pub too-old-leaves-all : (t : List ℕ) (e : Event) → (e .kind ≡ collect) ⊎ (e .kind ≡ begin) → e .ballot .0 < promised (roomAt t (e .slot .0))
+    → step t e .table ≡ t
+too-old-leaves-all t e asks old =
+    elim (step-cases t e) [
+      | refuses a is eq ↦ ap (λ (x : Stepped). x .table) eq
+      | restarts r ↦ absurd (no-restart asks (r .a-restart))
+      | settles r ↦
+          ap (λ (x : Stepped). x .table) (step-at-slot t e r)
+          ∙ ap (λ (o : Outcome). settle t (e .slot .0) o .table) (too-old-at-slot (headOf t) (roomAt t (e .slot .0)) e asks old)
+          ∙ withRoom-roomAt t (e .slot .0)
+    ]
+  where
+    no-restart : (e .kind ≡ collect) ⊎ (e .kind ≡ begin) → e .kind ≢ restart
+    no-restart (inl k) = omega arith
+    no-restart (inr k) = omega arith
 
 -- ---- a restart
 

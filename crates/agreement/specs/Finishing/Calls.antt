@@ -6,11 +6,9 @@ use mathlib.Core.Bool.{true}
 use mathlib.Core.List.{List, _++_}
 use mathlib.Core.Logic.{_≢_, _⊎_, inr}
 use native.Mathlib.Decide.{ℕ-discrete}
-use borrow.Author.Tests.{eq-eqb, ne-eqb}
 use Rattle.consensus.specs.declared.Head.{Head}
 use Rattle.consensus.specs.declared.Room.{Room}
 use Rattle.consensus.specs.declared.Event.{Event}
-use Rattle.consensus.specs.declared.Message.{Message}
 use Rattle.consensus.specs.declared.Answer.{Answer}
 use Rattle.consensus.specs.declared.Outcome.the-variants.{Becomes}
 use Rattle.consensus.specs.Layout.{slots, headOf, roomAt}
@@ -20,15 +18,12 @@ use Rattle.consensus.specs.Step.{step}
 use Rattle.step_laws.specs.KeptLaws.{WellKept, kept-clauses}
 use Rattle.step_laws.specs.StepCases.{roomAfter, answerOf, outcomeOf}
 use Rattle.step_laws.specs.StepKeeps.{step-room-at-slot, step-answer-at-slot}
-use Rattle.agreement.specs.Runs.{StepFunction, World, Among, withMessage, withTable, answerTo, after, MayCall}
-use Rattle.agreement.specs.Runs.Keeps.{headIn, RunKept, call-keeps, reaches-slot}
-use Rattle.agreement.specs.Finishing.{Turn, Turns}
+use Rattle.agreement.specs.Runs.{StepFunction, World, Among, withMessage, answerTo, after, MayCall}
+use Rattle.agreement.specs.Runs.Keeps.{headIn, RunKept, table-here, table-elsewhere, call-keeps, reaches-slot}
+use Rattle.agreement.specs.Finishing.{parcel, Turn, Turns}
 use Rattle.agreement.specs.Finishing.Turns.{none, next}
 
 -- ---- messages
-
-abbrev pub parcel : ℕ → Event → Message
-parcel i e = record { to = i; event = e }
 
 -- a message put out may be handed to the box that it is addressed to
 pub may-deliver : (n : ℕ) (w : World) (i to : ℕ) (e : Event) → i < n → Among (parcel to e) (w .parcels) → (to ≡ i) ⊎ (to ≡ allBoxes) → MayCall n w i e
@@ -53,12 +48,6 @@ pub record Called (n : ℕ) (w : World) (i : ℕ) (e : Event) (r : Room) (a : An
   pub here : roomIn (after step w i e) i (e .slot .0) ≡ r
   pub elsewhere : (j : ℕ) → j ≢ i → roomIn (after step w i e) j (e .slot .0) ≡ roomIn w j (e .slot .0)
   pub puts-out : after step w i e .parcels ≡ withMessage a (w .parcels)
-
-table-here : (tables : ℕ → List ℕ) (i : ℕ) (t : List ℕ) → withTable tables i t i ≡ t
-table-here tables i t = simp (eq-eqb i i refl)
-
-table-elsewhere : (tables : ℕ → List ℕ) (i j : ℕ) (t : List ℕ) → j ≢ i → withTable tables i t j ≡ tables j
-table-elsewhere tables i j t other = simp (ne-eqb j i other)
 
 pub call-becomes : (n : ℕ) (w : World) (i : ℕ) (e : Event) (r : Room) (a : Answer) → RunKept n w → MayCall n w i e → eventOk n e ≡ true
     → e .kind ≢ restart → onSlot (headIn n i) (roomIn w i (e .slot .0)) e ≡ Becomes r a → Called n w i e r a
@@ -92,8 +81,8 @@ by-box n w i e r a c P j called stood =
 
 -- ---- turns put together
 
-pub turns-append : (f : StepFunction) (n p s : ℕ) (w u v : World) (ts us : List Turn) → Turns f n p s w ts u → Turns f n p s u us v
-    → Turns f n p s w (ts ++ us) v
-turns-append f n p s w u v ts us none more = more
-turns-append f n p s w u v ts us (next {i = i} {ts = rest} e may slot answer silent turns) more =
-    next e may slot answer silent (turns-append f n p s (after f w i e) u v rest us turns more)
+pub turns-append : (f : StepFunction) (n p s b : ℕ) (w u v : World) (ts us : List Turn) → Turns f n p s b w ts u → Turns f n p s b u us v
+    → Turns f n p s b w (ts ++ us) v
+turns-append f n p s b w u v ts us none more = more
+turns-append f n p s b w u v ts us (next {i = i} {ts = rest} e takes turns) more =
+    next e takes (turns-append f n p s b (after f w i e) u v rest us turns more)

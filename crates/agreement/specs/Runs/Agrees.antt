@@ -1,20 +1,21 @@
--- Every reachable world keeps ledgers, ever longer ones: so a slot has one agreed value on all boxes at all times, and it was proposed.
+-- Every reachable world keeps ledgers, ever longer ones: so a slot has one agreed value on all boxes at all times, it was proposed, and a ballot has one value.
 -- Relies on the law of one call and the ledger's theorems. Cited by the promises.
 use Prim.Native.Nat.{ℕ, _≤_, _<_}
-use mathlib.Core.Path.{_≡_, refl, subst⁻¹}
+use mathlib.Core.Path.{_≡_, refl, _∙_, subst, subst⁻¹}
 use mathlib.Core.Logic.{_≢_, _⊎_, inl, inr, ⊎-elim}
 use Rattle.ballots.specs.Ballot.{maxBoxes, makerOf}
 use Rattle.consensus.specs.Room.{saved, noVote}
 use Rattle.consensus.specs.Layout.{slots}
 use Rattle.consensus.specs.Step.{step}
 use Rattle.step_laws.specs.LayoutLaws.{roomAt-fresh}
-use Rattle.agreement.specs.Ledger.{Said, _⊑_, proposed, emptyLedger}
+use Rattle.agreement.specs.Ledger.{Said, _⊑_, proposed, begun, emptyLedger}
+use Rattle.agreement.specs.Ledger.Kept.{BoxKept}
 use Rattle.agreement.specs.Ledger.Keeps.{empty-kept}
 use Rattle.agreement.specs.Ledger.Agrees.{agreement, chosen-was-proposed}
 use Rattle.agreement.specs.Majorities.{In, CollectSet, BeginSet, sets-meet}
 use Rattle.agreement.specs.Box.{RoomTold}
 use Rattle.agreement.specs.Box.Laws.{agreed-lasts, idle-told}
-use Rattle.agreement.specs.Runs.{World, start, Run, ProposedIn, says}
+use Rattle.agreement.specs.Runs.{World, start, Run, ProposedIn, says, hasAccepted}
 use Rattle.agreement.specs.Runs.Run.{still, _and-then_}
 use Rattle.agreement.specs.Runs.Keeps.{RunKept, start-kept, run-keeps}
 use Rattle.agreement.specs.Runs.Told.{Ledgers, WorldTold}
@@ -72,3 +73,17 @@ module _ (n : ℕ) (some : 1 ≤ n) (few : n ≤ maxBoxes) where
       (now .proposals s (says w i s)
       (chosen-was-proposed makerOf ℕ In (CollectSet n) (BeginSet n) (now .ledgers s) (now .told .ledgers-kept s) (says w i s)
       (now .told .boxes-told i box s slot .agreed-told said)))
+
+  -- what a box has accepted was begun, and one value is begun at a ballot
+  pub one-vote :
+      (w : World) → Run step n (start n) w → (i j s : ℕ) → i < n → j < n → s < slots → hasAccepted w i s .ballot .0 ≢ 0 →
+      hasAccepted w i s .ballot .0 ≡ hasAccepted w j s .ballot .0 → hasAccepted w i s .value ≡ hasAccepted w j s .value
+  one-vote w run i j s box box′ slot some same =
+      let now = from-start w run in
+      let l = now .ledgers s in
+      let kept = now .told .ledgers-kept s in
+      let here = subst (BoxKept l) (now .told .boxes-told i box s slot .saved-lasts) (kept .boxes-kept i) .accepted-begun in
+      let there = subst (BoxKept l) (now .told .boxes-told j box′ s slot .saved-lasts) (kept .boxes-kept j) .accepted-begun in
+      kept .one-begun (hasAccepted w j s .ballot .0) (hasAccepted w i s .value) (hasAccepted w j s .value)
+      (subst (λ (b : ℕ). Said (begun b (hasAccepted w i s .value)) l) same (here some))
+      (there (λ none. some (same ∙ none)))

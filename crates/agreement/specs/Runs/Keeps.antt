@@ -3,13 +3,13 @@
 use Prim.Native.Nat.{ℕ, _≤_, _<_}
 use mathlib.Core.Path.{_≡_, refl, sym, ap, subst, _∙_}
 use mathlib.Core.Bool.{true}
-use mathlib.Core.List.{List}
-use mathlib.Core.Logic.{_≢_, _⊎_, inl, inr}
+use mathlib.Core.List.{List, _∷_}
+use mathlib.Core.Logic.{_≢_, _⊎_, inl, inr, ⊎-elim}
 use native.Mathlib.Decide.{ℕ-discrete}
 use native.Mathlib.Omega.{arith}
 use native.Mathlib.Nat.{le-refl}
 use lib.Dec.{eqb}
-use borrow.Author.Tests.{eqb-true}
+use borrow.Author.Tests.{eqb-true, eq-eqb, ne-eqb}
 use Rattle.ballots.specs.Ballot.{maxBoxes}
 use Rattle.ballots.specs.BallotLaws.{zero-noneOrBallot}
 use Rattle.consensus.specs.declared.Head.{Head}
@@ -34,7 +34,7 @@ use Rattle.step_laws.specs.EventLaws.{names-a-slot}
 use Rattle.step_laws.specs.StepCases.{PassesRules, ReachesSlot, RestartsAll, step-at-restart, step-bad-event}
 use Rattle.step_laws.specs.StepKeeps.{step-keeps-length, step-keeps-head, step-keeps-wellKept}
 use Rattle.step_laws.specs.SentLaws.{Sent, MayAnswer, step-may-answer, step-sends}
-use Rattle.agreement.specs.Runs.{World, start, Among, Delivered, withMessage, answerTo, after, MayCall, Run}
+use Rattle.agreement.specs.Runs.{World, start, Among, Delivered, withMessage, withTable, answerTo, after, MayCall, Run}
 use Rattle.agreement.specs.Runs.Run.{still, _and-then_}
 
 -- ---- the statement
@@ -111,19 +111,32 @@ sent-kept n i h e m box head sent =
       no-restart = sent .no-restart;
     }
 
--- the messages after an answer are the one that it puts out and those before
+-- the messages after an answer are those before, with the one that it puts out if it does
+by-message : (P : List Message → Type 0) (a : Answer) (ps : List Message) → P ps → ((m : Message) → a ≡ Sends m → P (m ∷ ps)) → P (withMessage a ps)
+by-message P Quiet ps none one = none
+by-message P (Sends m) ps none one = one m refl
+by-message P BadTable ps none one = none
+by-message P BadEvent ps none one = none
+by-message P NotWellKept ps none one = none
+by-message P NotAwaited ps none one = none
+by-message P AlreadyAgreed ps none one = none
+by-message P OtherAgreed ps none one = none
+by-message P NoBallotLeft ps none one = none
+
 pub withMessage-keeps : (P : Message → Type 0) (a : Answer) (ps : List Message) → ((m : Message) → a ≡ Sends m → P m)
     → ((m : Message) → Among m ps → P m) → (m : Message) → Among m (withMessage a ps) → P m
-withMessage-keeps P Quiet ps new old m among = old m among
-withMessage-keeps P (Sends x) ps new old m (inl same) = subst P (sym same) (new x refl)
-withMessage-keeps P (Sends x) ps new old m (inr among) = old m among
-withMessage-keeps P BadTable ps new old m among = old m among
-withMessage-keeps P BadEvent ps new old m among = old m among
-withMessage-keeps P NotWellKept ps new old m among = old m among
-withMessage-keeps P NotAwaited ps new old m among = old m among
-withMessage-keeps P AlreadyAgreed ps new old m among = old m among
-withMessage-keeps P OtherAgreed ps new old m among = old m among
-withMessage-keeps P NoBallotLeft ps new old m among = old m among
+withMessage-keeps P a ps new old =
+    by-message (λ qs. (m : Message) → Among m qs → P m) a ps old (λ x sends m. ⊎-elim (λ same. subst P (sym same) (new x sends)) (old m))
+
+pub withMessage-adds : (m : Message) (a : Answer) (ps : List Message) → Among m ps → Among m (withMessage a ps)
+withMessage-adds m a ps among = by-message (Among m) a ps among (λ x sends. inr among)
+
+-- after a call the called box has the new table, and every other box its own
+pub table-here : (tables : ℕ → List ℕ) (i : ℕ) (t : List ℕ) → withTable tables i t i ≡ t
+table-here tables i t = simp (eq-eqb i i refl)
+
+pub table-elsewhere : (tables : ℕ → List ℕ) (i j : ℕ) (t : List ℕ) → j ≢ i → withTable tables i t j ≡ tables j
+table-elsewhere tables i j t other = simp (ne-eqb j i other)
 
 pub call-keeps : (n : ℕ) (w : World) (i : ℕ) (e : Event) → RunKept n w → MayCall n w i e → RunKept n (after step w i e)
 call-keeps n w i e k may =
@@ -183,7 +196,7 @@ past-three h e AlreadyAgreed may = inr (omega arith)
 past-three h e OtherAgreed may = inr (omega arith)
 past-three h e NoBallotLeft may = inr (omega arith)
 
-restarts-all : (n i : ℕ) (t : List ℕ) (e : Event) → BoxKept n i t → eventOk n e ≡ true → e .kind ≡ restart → RestartsAll t e
+pub restarts-all : (n i : ℕ) (t : List ℕ) (e : Event) → BoxKept n i t → eventOk n e ≡ true → e .kind ≡ restart → RestartsAll t e
 restarts-all n i t e k ok is =
     record {
       passes = passes-rules n i t e k ok;

@@ -20,7 +20,7 @@ use Rattle.consensus.specs.Room.{promised, phase, ownBallot, lasts, accepts, ag
 use Rattle.consensus.specs.Layout.{slots, headOf, roomAt}
 use Rattle.consensus.specs.Enough.{enoughToCollect}
 use Rattle.consensus.specs.WellKept.{wellKept}
-use Rattle.consensus.specs.Events.{restart}
+use Rattle.consensus.specs.Answers.{answerNumber}
 use Rattle.consensus.specs.OnSlot.{awaited, onPropose, onCollect, onLast, onBegin, onAccept, onSuccess, onOldRound, onSlot}
 use Rattle.consensus.specs.Step.{Stepped, step}
 use Rattle.step_laws.specs.ByTest.{by-test, by-either, by-answer}
@@ -29,10 +29,10 @@ use Rattle.step_laws.specs.AwaitedLaws.{awaited-clauses}
 use Rattle.step_laws.specs.HeadLaws.{table-clauses}
 use Rattle.step_laws.specs.LayoutLaws.{roomAt-restarted}
 use Rattle.step_laws.specs.RefusalLaws.{whatever-the-kind}
-use Rattle.step_laws.specs.StepCases.{roomAfter, step-at-restart, step-cases}
+use Rattle.step_laws.specs.StepCases.{RestartsAll, roomAfter, step-at-restart, step-cases}
 use Rattle.step_laws.specs.StepCases.StepCases.{refuses, restarts, settles}
 use Rattle.step_laws.specs.StepKeeps.{step-room-at-slot, step-keeps-other}
-use Rattle.agreement.specs.Runs.{World, start, MayCall, Run, RestartedIn, after, says}
+use Rattle.agreement.specs.Runs.{World, start, MayCall, Run, RestartsBox, RestartedIn, after, says}
 use Rattle.agreement.specs.Runs.Run.{still, _and-then_}
 use Rattle.agreement.specs.Runs.Keeps.{BoxKept, RunKept, start-kept, run-keeps}
 use Rattle.agreement.specs.Runs.Agrees.{one-value}
@@ -86,7 +86,7 @@ module _ (h : Head) (r : Room) (e : Event) (kept : wellKept h r ≡ true) (some 
 
 -- the table's slot says the same after the step, or nothing after a restart
 pub step-says : (t : List ℕ) (n i : ℕ) (e : Event) (s : ℕ) → BoxKept n i t → s < slots → agreed (roomAt t s) ≢ 0
-    → (agreed (roomAt (step t e .table) s) ≡ agreed (roomAt t s)) ⊎ ((agreed (roomAt (step t e .table) s) ≡ 0) × (e .kind ≡ restart))
+    → (agreed (roomAt (step t e .table) s) ≡ agreed (roomAt t s)) ⊎ ((agreed (roomAt (step t e .table) s) ≡ 0) × RestartsAll t e)
 step-says t n i e s box below some =
     elim (step-cases t e) [
       | refuses a refusal same ↦ inl (ap (λ (x : Stepped). agreed (roomAt (x .table) s)) same)
@@ -94,7 +94,7 @@ step-says t n i e s box below some =
           inr (
             ap (λ (x : Stepped). agreed (roomAt (x .table) s)) (step-at-restart t e r)
                 ∙ ap (λ (x : Room). agreed x) (roomAt-restarted slots t s (table-clauses t (box .table-ok) .whole) (le-refl slots) below),
-            r .a-restart,
+            r,
           )
       | settles r ↦
           elim (ℕ-discrete s (e .slot .0)) [
@@ -109,16 +109,27 @@ step-says t n i e s box below some =
           ]
     ]
 
+-- box j, whose table is t after a call with e at box i, says the same of slot s, or nothing as the call restarted it
+abbrev StaysOrForgot : World → ℕ → Event → ℕ → ℕ → List ℕ → Type 0
+StaysOrForgot w i e s j t = (agreed (roomAt t s) ≡ says w j s) ⊎ ((agreed (roomAt t s) ≡ 0) × RestartsBox step w i e j)
+
 pub call-says : (n : ℕ) (w : World) (i : ℕ) (e : Event) (j s : ℕ) → RunKept n w → MayCall n w i e → s < slots → says w j s ≢ 0
-    → (says (after step w i e) j s ≡ says w j s) ⊎ ((says (after step w i e) j s ≡ 0) × ((e .kind ≡ restart) × (i ≡ j)))
+    → (says (after step w i e) j s ≡ says w j s) ⊎ ((says (after step w i e) j s ≡ 0) × RestartsBox step w i e j)
 call-says n w i e j s kept may slot some =
-    by-test (λ (t : List ℕ). (agreed (roomAt t s) ≡ says w j s) ⊎ ((agreed (roomAt t s) ≡ 0) × ((e .kind ≡ restart) × (i ≡ j)))) (eqb j i)
-    (step (w .tables i) e .table) (w .tables j)
+    by-test (StaysOrForgot w i e s j) (eqb j i) (step (w .tables i) e .table) (w .tables j)
     (λ same.
     let here = eqb-true j i same in
-    subst⁻¹
-    (λ (x : ℕ). (agreed (roomAt (step (w .tables i) e .table) s) ≡ says w x s) ⊎ ((agreed (roomAt (step (w .tables i) e .table) s) ≡ 0) × ((e .kind ≡ restart) × (i ≡ x)))) here
-    (⊎-elim (λ stays. inl stays) (λ forgot. inr (forgot .0, (forgot .1, refl)))
+    subst⁻¹ (λ (x : ℕ). StaysOrForgot w i e s x (step (w .tables i) e .table)) here
+    (⊎-elim (λ stays. inl stays)
+    (λ forgot.
+    inr (
+      forgot .0,
+      record {
+        a-restart = forgot .1 .a-restart;
+        this-box = refl;
+        answered = ap (λ (x : Stepped). answerNumber (x .answer)) (step-at-restart (w .tables i) e (forgot .1));
+      },
+    ))
     (step-says (w .tables i) n i e s (kept .boxes-kept i (may .a-box)) slot (subst (λ (x : ℕ). says w x s ≢ 0) here some))))
     (λ other. inl refl)
 

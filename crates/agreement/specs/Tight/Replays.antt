@@ -1,18 +1,22 @@
--- Runs written as lists of calls and checked by computing, for any step function; and a disagreement shown by such a run.
+-- Runs written as lists of calls and checked by computing, for any step function; and a disagreement, or a promise too high, shown by such a run.
 -- Relies on Runs and Promises. Cited by the Tight files.
-use Prim.Native.Nat.{ℕ}
+use Prim.Native.Nat.{ℕ, _+_, _≤_, _<_}
 use mathlib.Core.Path.{_≡_, refl}
 use mathlib.Core.Bool.{Bool, true, false, not, _&&_, _||_, and-eq-true-iff, false≢true}
-use mathlib.Core.List.{List, [], _∷_}
+use mathlib.Core.List.{List, [], _∷_, _++_, map}
 use mathlib.Core.Logic.{_≢_, _⊎_, inl, inr, ⊎-elim, ⊎-map}
-use lib.Dec.{leb, ltb, eqb, lit<}
+use native.Mathlib.Omega.{arith}
+use lib.Dec.{leb, ltb, eqb, lit<, lit≤}
 use borrow.Author.Tests.{eqb-true, eqb-false, leb-true, ltb-true, not-true}
-use Rattle.ballots.specs.Ballot.{maxBoxes}
+use Rattle.ballots.specs.Ballot.{maxBoxes, xOf}
 use Rattle.consensus.specs.declared.Event.{Event}
 use Rattle.consensus.specs.declared.Message.{Message}
-use Rattle.consensus.specs.Events.{propose, restart, event}
+use Rattle.consensus.specs.Choice.{if_then_else_}
+use Rattle.consensus.specs.Layout.{slots}
+use Rattle.consensus.specs.Events.{propose, collect, last, begin, accept, oldRound, restart, event}
+use Rattle.consensus.specs.Answers.{answerNumber}
 use Rattle.consensus.specs.OnSlot.{allBoxes}
-use Rattle.agreement.specs.Runs.{StepFunction, World, start, Delivered, MayCall, Run, after, says}
+use Rattle.agreement.specs.Runs.{StepFunction, World, start, Delivered, MayCall, Run, answerTo, after, proposalsIn, says, hasPromised}
 use Rattle.agreement.specs.Runs.Run.{still, _and-then_}
 use Rattle.agreement.specs.Promises.{Promises}
 
@@ -29,7 +33,7 @@ sameEvent d e =
     eqb (d .kind) (e .kind) && eqb (d .slot .0) (e .slot .0) && eqb (d .from) (e .from)
     && eqb (d .ballot .0) (e .ballot .0) && eqb (d .second .0) (e .second .0) && eqb (d .value) (e .value)
 
-same-event : (d e : Event) → sameEvent d e ≡ true → d ≡ e
+pub same-event : (d e : Event) → sameEvent d e ≡ true → d ≡ e
 unfolding sameEvent
 same-event d e same =
     let v = and-eq-true-iff _ _ .0 same in
@@ -105,6 +109,47 @@ may-make n w c ok =
           (either _ _ (parts .1));
     }
 
+-- ---- events about slot 0
+
+abbrev pub Propose : ℕ → Event
+Propose v = event propose 0 0 0 0 v
+
+abbrev pub Collect : ℕ → ℕ → Event
+Collect from b = event collect 0 from b 0 0
+
+abbrev pub Last : ℕ → ℕ → ℕ → ℕ → Event
+Last from b b₂ v = event last 0 from b b₂ v
+
+abbrev pub Begin : ℕ → ℕ → ℕ → Event
+Begin from b v = event begin 0 from b 0 v
+
+abbrev pub Accept : ℕ → ℕ → Event
+Accept from b = event accept 0 from b 0 0
+
+abbrev pub OldRound : ℕ → ℕ → ℕ → Event
+OldRound from b b₂ = event oldRound 0 from b b₂ 0
+
+abbrev pub Restart : Event
+Restart = event restart 0 0 0 0 0
+
+-- ---- parts of a round
+
+-- the boxes qs answer p's Collect of ballot b
+abbrev pub asked : ℕ → List ℕ → ℕ → List Call
+asked p qs b = map (λ q. q gets Collect p b) qs
+
+-- p proposes v under ballot b and hears from the boxes qs, which have accepted nothing
+abbrev pub collected : ℕ → List ℕ → ℕ → ℕ → List Call
+collected p qs b v = (p gets Propose v) ∷ asked p qs b ++ map (λ q. p gets Last q b 0 0) qs
+
+-- the boxes qs accept v under p's ballot b
+abbrev pub accepted : ℕ → List ℕ → ℕ → ℕ → List Call
+accepted p qs b v = map (λ q. q gets Begin p b v) qs
+
+-- and p hears of it
+abbrev pub agreedBy : ℕ → List ℕ → ℕ → ℕ → List Call
+agreedBy p qs b v = accepted p qs b v ++ map (λ q. p gets Accept q b) qs
+
 -- ---- calls one after the other
 
 module _ (f : StepFunction) where
@@ -148,7 +193,7 @@ disagree f d =
     && not (eqb (says w (d .one) 0) 0) && not (eqb (says u (d .other) 0) 0)
     && not (eqb (says w (d .one) 0) (says u (d .other) 0))
 
-apart : (a b : ℕ) → not (eqb a b) ≡ true → a ≢ b
+pub apart : (a b : ℕ) → not (eqb a b) ≡ true → a ≢ b
 apart a b e = eqb-false a b (not-true (eqb a b) e)
 
 pub disagreement-breaks : (f : StepFunction) (d : Replay) → disagree f d ≡ true → ¬ Promises f
@@ -171,3 +216,59 @@ disagreement-breaks f d shown promises =
     (run-of f (d .boxes) _ _ (d .later) still (later .1))
     (ltb-true _ _ (one .1)) (ltb-true _ _ (other .1)) (lit< tt)
     (apart _ _ (at-one .1)) (apart _ _ (at-other .1)))
+
+-- ---- a promise too high
+
+-- how many of the calls are Proposes
+proposals : List Call → ℕ
+proposals [] = 0
+proposals (c ∷ cs) = (if eqb (c .event .kind) propose then 1 else 0) + proposals cs
+
+both-at-most : (a b : Bool) → (if a && b then 1 else 0) ≤ (if a then 1 else 0)
+both-at-most true true = lit≤ tt
+both-at-most true false = lit≤ tt
+both-at-most false b = lit≤ tt
+
+run-proposes : (f : StepFunction) (n : ℕ) (v w : World) (cs : List Call) (run : Run f n v w) (ok : mayMakeAll f n w cs ≡ true)
+    → proposalsIn (run-of f n v w cs run ok) ≤ proposalsIn run + proposals cs
+unfolding mayMakeAll run-of proposals
+run-proposes f n v w [] run ok = omega arith
+run-proposes f n v w (c ∷ cs) run ok =
+    let parts = and-eq-true-iff _ _ .0 ok in
+    omega (
+      arith,
+      run-proposes f n v (after f w (c .box) (c .event)) cs (_and-then_ run (may-make n w c (parts .0))) (parts .1),
+      both-at-most (eqb (c .event .kind) propose) (eqb (answerNumber (answerTo f w (c .box) (c .event))) 0),
+    )
+
+-- a run of some boxes, and a box and a slot of which it is asked what the box has promised there
+pub record Raise : Type 0 where
+  pub boxes : ℕ
+  pub calls : List Call
+  pub box : ℕ
+  pub slot : ℕ
+
+-- 1 to 7 boxes make the calls, and the promise has a higher x than there are Proposes among them
+unfoldable pub raises : StepFunction → Raise → Bool
+unfolding worldAfter mayMakeAll proposals
+raises f d =
+    leb 1 (d .boxes) && leb (d .boxes) maxBoxes && ltb (d .box) (d .boxes) && ltb (d .slot) slots
+    && mayMakeAll f (d .boxes) (start (d .boxes)) (d .calls)
+    && ltb (proposals (d .calls)) (xOf (hasPromised (worldAfter f (start (d .boxes)) (d .calls)) (d .box) (d .slot)))
+
+pub raise-breaks : (f : StepFunction) (d : Raise) → raises f d ≡ true → ¬ Promises f
+unfolding raises
+raise-breaks f d shown promises =
+    let high = and-eq-true-iff _ _ .0 shown in
+    let made = and-eq-true-iff _ _ .0 (high .0) in
+    let slot = and-eq-true-iff _ _ .0 (made .0) in
+    let box = and-eq-true-iff _ _ .0 (slot .0) in
+    let count = and-eq-true-iff _ _ .0 (box .0) in
+    let w = worldAfter f (start (d .boxes)) (d .calls) in
+    let run : Run f (d .boxes) (start (d .boxes)) w = run-of f (d .boxes) _ _ (d .calls) still (made .1) in
+    let above : proposals (d .calls) < xOf (hasPromised w (d .box) (d .slot)) = ltb-true _ _ (high .1) in
+    let proposed : proposalsIn run ≤ 0 + proposals (d .calls) = run-proposes f (d .boxes) _ _ (d .calls) still (made .1) in
+    let low : xOf (hasPromised w (d .box) (d .slot)) ≤ proposalsIn run =
+    promises .promises-stay-low (d .boxes) w (d .box) (d .slot) (record { some = leb-true _ _ (count .0); few = leb-true _ _ (count .1) })
+    run (ltb-true _ _ (box .1)) (ltb-true _ _ (slot .1)) in
+    omega arith
