@@ -51,6 +51,8 @@ NeverAnswers f =
     (answerNumber (answerTo f w i e) ≢ 3) × (answerNumber (answerTo f w i e) ≢ 6)
     × (Delivered w i e → (answerNumber (answerTo f w i e) ≢ 1) × (answerNumber (answerTo f w i e) ≢ 2))
 
+-- e. A majority that has promised nothing as high as a new ballot finishes, on exactly the call numbered 4M + 1: `FinishesAll` of Finishing.
+
 -- f. For each number of boxes, any box, slot and value: some run reaches agreement on that value at that box.
 abbrev pub SomeRunAgrees : StepFunction → Type 0
 SomeRunAgrees f =
@@ -72,7 +74,6 @@ abbrev pub RestartIsDone : StepFunction → Type 0
 RestartIsDone f =
     (n : ℕ) (w : World) (i : ℕ) (e : Event) → Count n → Run f n (start n) w → i < n → e .kind ≡ restart → eventOk n e ≡ true → Forgets f w i e
 
--- e. is `FinishesAll`: a majority that has promised nothing as high as a new ballot finishes, on exactly the call numbered 4M + 1.
 pub record Promises (f : StepFunction) : Type 0 where
   pub one-value : OneValue f
   pub was-proposed : WasProposed f

@@ -107,14 +107,14 @@ abbrev pub ProposedIn : {f : StepFunction} {n : ℕ} {w u : World} → Run f n w
 ProposedIn still s v = ⊥
 ProposedIn {f} (_and-then_ {u = u} {i = i} {e = e} run may) s v = ProposedIn run s v ⊎ ProposesFor f u i e s v
 
--- the call with e at box i in world w is a Propose, and answers 0
-abbrev pub proposes : StepFunction → World → ℕ → Event → Bool
-proposes f w i e = eqb (e .kind) propose && eqb (answerNumber (answerTo f w i e)) 0
+-- 1 for a Propose that answers 0, and 0 for any other call
+abbrev pub proposals : Bool → Answer → ℕ
+proposals isPropose a = if isPropose && eqb (answerNumber a) 0 then 1 else 0
 
 -- how many calls of the run were Proposes that answered 0
 abbrev pub proposalsIn : {f : StepFunction} {n : ℕ} {w u : World} → Run f n w u → ℕ
 proposalsIn still = 0
-proposalsIn {f} (_and-then_ {u = u} {i = i} {e = e} run may) = proposalsIn run + (if proposes f u i e then 1 else 0)
+proposalsIn {f} (_and-then_ {u = u} {i = i} {e = e} run may) = proposalsIn run + proposals (eqb (e .kind) propose) (answerTo f u i e)
 
 -- the call with e at box i in world w is a Restart of box j, and answers 0
 pub record RestartsBox (f : StepFunction) (w : World) (i : ℕ) (e : Event) (j : ℕ) : Type 0 where

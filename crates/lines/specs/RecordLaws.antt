@@ -3,7 +3,7 @@
 use Prim.Native.Nat.{ℕ, _<_, _≤_}
 use mathlib.Core.Path.{_≡_, refl, ap, sym, _∙_}
 use mathlib.Core.List.{List}
-use mathlib.Core.Logic.{_⊎_, inl, inr, ⊎-elim}
+use mathlib.Core.Logic.{_⊎_, _↔_, inl, inr, ⊎-elim}
 use native.Mathlib.Omega.{arith}
 use lib.ListN.{length}
 use Rattle.lines.specs.declared.Reading.{Reading}
@@ -41,6 +41,13 @@ answers line = either (readNumbers recordCount line)
     either : (r : NumbersRead) → (readingOf r .answer ≡ 0) ⊎ (readingOf r ≡ badLine)
     either (theNumbers ns) = inl refl
     either noNumbers = inr refl
+
+-- 8 exactly if the line is the text of no record
+pub answers-8-exactly-if : (line : List ℕ) → (readRecord line .answer ≡ 8) ↔ ((ns : List ℕ) → ¬ IsTextOf line ns)
+answers-8-exactly-if line = (
+  λ eight ns text. omega (arith, ap (λ (r : Reading). r .answer) (ap readRecord (text .spelling) ∙ read-of-text ns (text .is-record))),
+  λ none. ⊎-elim (λ good. absurd (none _ (text-of-read line good))) (ap (λ (r : Reading). r .answer)) (answers line),
+)
 
 -- a record's line is at most 147 bytes
 pub longest-record : (ns : List ℕ) → IsRecord ns → length (lineText ns) ≤ longestRecord

@@ -19,12 +19,11 @@ use Rattle.consensus.specs.declared.Message.{Message}
 use Rattle.consensus.specs.declared.Answer.{Answer}
 use Rattle.consensus.specs.declared.Answer.the-variants.{Quiet, Sends}
 use Rattle.consensus.specs.declared.Outcome.{Outcome}
-use Rattle.consensus.specs.Choice.{if_then_else_}
 use Rattle.consensus.specs.Room.{promised, phase, ownBallot, lasts, accepts, agreed, idle, collecting, begun}
 use Rattle.consensus.specs.Layout.{slots, headOf, roomAt}
 use Rattle.consensus.specs.Enough.{enoughToCollect, enoughToBegin}
 use Rattle.consensus.specs.Events.{propose, restart, eventOk}
-use Rattle.consensus.specs.Answers.{numbersOf, answerNumber}
+use Rattle.consensus.specs.Answers.{numbersOf}
 use Rattle.consensus.specs.OnSlot.{awaited, onPropose, onCollect, onLast, onBegin, onAccept, onSuccess, onOldRound, onSlot}
 use Rattle.consensus.specs.Step.{Stepped, step}
 use Rattle.step_laws.specs.ByTest.{by-either}
@@ -37,7 +36,7 @@ use Rattle.step_laws.specs.RefusalLaws.{isRefusal}
 use Rattle.step_laws.specs.StepCases.{ReachesSlot, RestartsAll, roomAfter, answerOf, step-at-restart, step-cases}
 use Rattle.step_laws.specs.StepCases.StepCases.{refuses, restarts, settles}
 use Rattle.step_laws.specs.StepKeeps.{step-room-at-slot, step-answer-at-slot, step-keeps-other, step-restarts}
-use Rattle.agreement.specs.Runs.{World, start, Among, Outside, Delivered, answerTo, after, MayCall, Run, proposalsIn, hasPromised}
+use Rattle.agreement.specs.Runs.{World, start, Among, Outside, Delivered, answerTo, after, MayCall, Run, proposals, proposalsIn, hasPromised}
 use Rattle.agreement.specs.Runs.Run.{still, _and-then_}
 use Rattle.agreement.specs.Runs.Keeps.{withMessage-keeps}
 
@@ -52,10 +51,6 @@ record EventLow (c : ℕ) (e : Event) : Type 0 where
 record WorldLow (c : ℕ) (w : World) : Type 0 where
   promises-low : (i s : ℕ) → s < slots → xOf (hasPromised w i s) ≤ c
   parcels-low : (m : Message) → Among m (w .parcels) → EventLow c (m .event)
-
--- the count c after a call that answers a: one more where the call proposes and its answer is 0
-abbrev counted : ℕ → Bool → Answer → ℕ
-counted c proposes a = c + (if proposes && eqb (answerNumber a) 0 then 1 else 0)
 
 -- ---- one event on its slot
 
@@ -72,16 +67,16 @@ own-at-most-promised h r k =
       | no running ↦ k .phase-kept .when-running running .own-at-most-promised
     ]
 
-module _ (h : Head) (r : Room) (e : Event) (c : ℕ) (proposes : Bool) (good : HeadKept h) (k : WellKept h r) (low : xOf (promised r) ≤ c) (said : EventLow c e) where
+module _ (h : Head) (r : Room) (e : Event) (c : ℕ) (isPropose : Bool) (good : HeadKept h) (k : WellKept h r) (low : xOf (promised r) ≤ c) (said : EventLow c e) where
   abbrev OutcomeLow : Outcome → Type 0
-  OutcomeLow o = Low (counted c proposes (answerOf o)) (roomAfter r o) (answerOf o)
+  OutcomeLow o = Low (c + proposals isPropose (answerOf o)) (roomAfter r o) (answerOf o)
 
   -- the one new ballot: its x is one above the promise's
-  propose-low : proposes ≡ true → OutcomeLow (onPropose h r e)
+  propose-low : isPropose ≡ true → OutcomeLow (onPropose h r e)
   unfolding onPropose
-  propose-low counts =
+  propose-low is =
       by-either OutcomeLow (not (eqb (agreed r) 0)) (omega arith)
-      (by-either OutcomeLow (ltb maxX (nextX (promised r))) (omega arith) (simp counts (omega arith)))
+      (by-either OutcomeLow (ltb maxX (nextX (promised r))) (omega arith) (simp is (omega arith)))
 
   collect-low : OutcomeLow (onCollect h r e)
   unfolding onCollect
@@ -114,11 +109,11 @@ module _ (h : Head) (r : Room) (e : Event) (c : ℕ) (proposes : Bool) (good : H
   unfolding onOldRound
   oldRound-low = by-either OutcomeLow (not (eqb (phase r) idle) && eqb (ownBallot r) (e .ballot .0)) (omega arith) (omega arith)
 
-  onSlot-low : eventOk (h .boxes) e ≡ true → e .kind ≢ restart → (e .kind ≡ propose → proposes ≡ true) → OutcomeLow (onSlot h r e)
+  onSlot-low : eventOk (h .boxes) e ≡ true → e .kind ≢ restart → (e .kind ≡ propose → isPropose ≡ true) → OutcomeLow (onSlot h r e)
   unfolding onSlot
-  onSlot-low ok other counts =
+  onSlot-low ok other is =
       elim (event-cases (h .boxes) e ok) [
-        | a-propose kind x ↦ simp kind (propose-low (counts kind))
+        | a-propose kind x ↦ simp kind (propose-low (is kind))
         | a-collect kind x ↦ simp kind collect-low
         | a-last kind x ↦ simp kind last-low
         | a-begin kind x ↦ simp kind begin-low
@@ -137,7 +132,7 @@ record SteppedLow (c : ℕ) (x : Stepped) : Type 0 where
 
 module _ (t : List ℕ) (e : Event) (c : ℕ) (low : (s : ℕ) → s < slots → xOf (promised (roomAt t s)) ≤ c) where
   abbrev now : ℕ
-  now = counted c (eqb (e .kind) propose) (step t e .answer)
+  now = c + proposals (eqb (e .kind) propose) (step t e .answer)
 
   refused-low : (a : Answer) → isRefusal a ≡ true → step t e ≡ record { table = t; answer = a } → SteppedLow now (step t e)
   refused-low a refusal same =
@@ -159,7 +154,7 @@ module _ (t : List ℕ) (e : Event) (c : ℕ) (low : (s : ℕ) → s < slots →
   settled-low r said =
       let below = names-a-slot (headOf t .boxes) e (r .passes .event-ok) (r .no-restart) in
       let here : Low now (roomAt (step t e .table) (e .slot .0)) (step t e .answer) =
-      subst₂ (λ (a : Answer) (x : Room). Low (counted c (eqb (e .kind) propose) a) x a)
+      subst₂ (λ (a : Answer) (x : Room). Low (c + proposals (eqb (e .kind) propose) a) x a)
       (sym (step-answer-at-slot t e r)) (sym (step-room-at-slot t e r))
       (onSlot-low (headOf t) (roomAt t (e .slot .0)) e c (eqb (e .kind) propose)
       (table-clauses t (r .passes .table-ok) .head-kept) (kept-clauses (headOf t) (roomAt t (e .slot .0)) (r .slot-kept))
@@ -196,10 +191,10 @@ called-low n w i e c k may r =
     (may .source)
 
 call-low : (n : ℕ) (w : World) (i : ℕ) (e : Event) (c : ℕ) → WorldLow c w → MayCall n w i e
-    → WorldLow (counted c (eqb (e .kind) propose) (answerTo step w i e)) (after step w i e)
+    → WorldLow (c + proposals (eqb (e .kind) propose) (answerTo step w i e)) (after step w i e)
 call-low n w i e c k may =
     let stepped = step-low (w .tables i) e c (k .promises-low i) (called-low n w i e c k may) in
-    let count = counted c (eqb (e .kind) propose) (answerTo step w i e) in
+    let count = c + proposals (eqb (e .kind) propose) (answerTo step w i e) in
     record {
       promises-low = λ j s below.
           by-either (λ (t : List ℕ). xOf (promised (roomAt t s)) ≤ count) (eqb j i) (stepped .promises-low s below)

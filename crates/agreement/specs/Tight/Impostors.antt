@@ -139,7 +139,7 @@ promisedAll (suc k) s t =
     let raised = withRoom u k (promising (largestBallot (headOf u .boxes)) (roomAt u k)) in
     if eqb k s then u else raised
 
--- the step, but an event of kind k that is answered 0 also promises the largest ballot in each slot but s
+-- the step, but an event of kind k that is answered 0 also promises the largest ballot in each slot but one
 promisesAt : ℕ → (Event → ℕ) → StepFunction
 promisesAt k but t e =
     let done = stepWith onSlot t e in

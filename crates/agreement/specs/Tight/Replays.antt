@@ -220,9 +220,9 @@ disagreement-breaks f d shown promises =
 -- ---- a promise too high
 
 -- how many of the calls are Proposes
-proposals : List Call → ℕ
-proposals [] = 0
-proposals (c ∷ cs) = (if eqb (c .event .kind) propose then 1 else 0) + proposals cs
+proposed : List Call → ℕ
+proposed [] = 0
+proposed (c ∷ cs) = (if eqb (c .event .kind) propose then 1 else 0) + proposed cs
 
 both-at-most : (a b : Bool) → (if a && b then 1 else 0) ≤ (if a then 1 else 0)
 both-at-most true true = lit≤ tt
@@ -230,8 +230,8 @@ both-at-most true false = lit≤ tt
 both-at-most false b = lit≤ tt
 
 run-proposes : (f : StepFunction) (n : ℕ) (v w : World) (cs : List Call) (run : Run f n v w) (ok : mayMakeAll f n w cs ≡ true)
-    → proposalsIn (run-of f n v w cs run ok) ≤ proposalsIn run + proposals cs
-unfolding mayMakeAll run-of proposals
+    → proposalsIn (run-of f n v w cs run ok) ≤ proposalsIn run + proposed cs
+unfolding mayMakeAll run-of proposed
 run-proposes f n v w [] run ok = omega arith
 run-proposes f n v w (c ∷ cs) run ok =
     let parts = and-eq-true-iff _ _ .0 ok in
@@ -250,11 +250,11 @@ pub record Raise : Type 0 where
 
 -- 1 to 7 boxes make the calls, and the promise has a higher x than there are Proposes among them
 unfoldable pub raises : StepFunction → Raise → Bool
-unfolding worldAfter mayMakeAll proposals
+unfolding worldAfter mayMakeAll proposed
 raises f d =
     leb 1 (d .boxes) && leb (d .boxes) maxBoxes && ltb (d .box) (d .boxes) && ltb (d .slot) slots
     && mayMakeAll f (d .boxes) (start (d .boxes)) (d .calls)
-    && ltb (proposals (d .calls)) (xOf (hasPromised (worldAfter f (start (d .boxes)) (d .calls)) (d .box) (d .slot)))
+    && ltb (proposed (d .calls)) (xOf (hasPromised (worldAfter f (start (d .boxes)) (d .calls)) (d .box) (d .slot)))
 
 pub raise-breaks : (f : StepFunction) (d : Raise) → raises f d ≡ true → ¬ Promises f
 unfolding raises
@@ -266,8 +266,8 @@ raise-breaks f d shown promises =
     let count = and-eq-true-iff _ _ .0 (box .0) in
     let w = worldAfter f (start (d .boxes)) (d .calls) in
     let run : Run f (d .boxes) (start (d .boxes)) w = run-of f (d .boxes) _ _ (d .calls) still (made .1) in
-    let above : proposals (d .calls) < xOf (hasPromised w (d .box) (d .slot)) = ltb-true _ _ (high .1) in
-    let proposed : proposalsIn run ≤ 0 + proposals (d .calls) = run-proposes f (d .boxes) _ _ (d .calls) still (made .1) in
+    let above : proposed (d .calls) < xOf (hasPromised w (d .box) (d .slot)) = ltb-true _ _ (high .1) in
+    let counted : proposalsIn run ≤ 0 + proposed (d .calls) = run-proposes f (d .boxes) _ _ (d .calls) still (made .1) in
     let low : xOf (hasPromised w (d .box) (d .slot)) ≤ proposalsIn run =
     promises .promises-stay-low (d .boxes) w (d .box) (d .slot) (record { some = leb-true _ _ (count .0); few = leb-true _ _ (count .1) })
     run (ltb-true _ _ (box .1)) (ltb-true _ _ (slot .1)) in
