@@ -32,6 +32,12 @@ abbrev pub Distinct : List ℕ → Type 0
 Distinct [] = Unit {0}
 Distinct (q ∷ qs) = (Listed q qs → ⊥) × Distinct qs
 
+-- a majority of the smallest size, of n boxes: none is listed twice, and none could be left out
+pub record JustEnough (n : ℕ) (boxes : List ℕ) : Type 0 where
+  pub smallest : length boxes ≡ smallestMajority n
+  pub distinct : Distinct boxes
+  pub all-boxes : (q : ℕ) → Listed q boxes → q < n
+
 -- the same boxes in an order of their own: as many, distinct, and each of them listed
 pub record OrderOf (boxes order : List ℕ) : Type 0 where
   pub as-many : length order ≡ length boxes
@@ -87,9 +93,7 @@ pub record MayFinish (n : ℕ) (w : World) (p s v : ℕ) (boxes : List ℕ) : Ty
   pub a-value : v ≢ 0
   pub nothing-agreed : says w p s ≡ 0
   pub x-left : nextX (hasPromised w p s) ≤ maxX
-  pub smallest : length boxes ≡ smallestMajority n
-  pub distinct : Distinct boxes
-  pub all-boxes : (q : ℕ) → Listed q boxes → q < n
+  pub just-enough : JustEnough n boxes
   pub nothing-as-high : (q : ℕ) → Listed q boxes → hasPromised w q s < nextBallot (hasPromised w p s) p
 
 -- u is the accepted value of the highest accepted ballot for slot s among the boxes, or v where none of them has accepted one

@@ -26,10 +26,10 @@ use Rattle.agreement.specs.Runs.Keeps.{headIn, RunKept, reachable-kept}
 use Rattle.agreement.specs.Runs.Agrees.{one-vote}
 use Rattle.agreement.specs.Finishing.{OrderOf, parcel, Turn, Turns, turn, proposal, MayFinish, HighestAccepted, Finishes, FinishesAll}
 use Rattle.agreement.specs.Finishing.Calls.{roomIn, Called, call-becomes, by-box, turns-append}
-use Rattle.agreement.specs.Finishing.Asks.{PromisedTo, Accepted, ReportsAccepted, ReportsNothing, collect-replies, begin-replies}
+use Rattle.agreement.specs.Finishing.Asks.{FitToBegin, FitToCollect, ReportsAccepted, ReportsNothing, collect-replies, begin-replies}
 use Rattle.agreement.specs.Finishing.Counts.{Underway}
 use Rattle.agreement.specs.Finishing.Highest.{OneVote, none-yet, best-is-highest}
-use Rattle.agreement.specs.Finishing.Halves.{Collecting, Begins, last-counter, BegunFor, Agrees, accept-counter, Ready, Majority, half-round}
+use Rattle.agreement.specs.Finishing.Halves.{CollectingFor, Begins, last-counter, BegunFor, AgreesOn, accept-counter, Ready, half-round}
 
 proposes : (n p s v : ℕ) (r : Room) → agreed r ≡ 0 → nextX (promised r) ≤ maxX → onSlot (headIn n p) r (proposal s v) ≡
     Becomes
@@ -65,7 +65,7 @@ module _ (n : ℕ) (w : World) (p s v : ℕ) (boxes : List ℕ) (kept : RunKept 
       (proposes n p s v (roomIn w p s) (may .nothing-agreed) (may .x-left))
 
   ready-to-collect : (counts : List ℕ) → OrderOf boxes counts
-      → Ready n p s next-ballot collecting collect 0 (λ d. d .lasts) (Accepted accepted next-ballot) (Collecting accepted boxes v counts) boxes (after step w p (proposal s v))
+      → Ready n p s next-ballot collecting collect 0 (λ d. d .lasts) (FitToCollect accepted next-ballot) (CollectingFor accepted boxes v counts) boxes (after step w p (proposal s v))
   ready-to-collect counts order =
       let c = proposal-called in
       let round-is : roomIn (after step w p (proposal s v)) p s .round ≡ round collecting (vote next-ballot v) noVote 0 0 =
@@ -74,14 +74,14 @@ module _ (n : ℕ) (w : World) (p s v : ℕ) (boxes : List ℕ) (kept : RunKept 
         standing = record {
           kept = c .kept;
           fits = λ q listed.
-              by-box n w p (proposal s v) proposing (Sends asks-to-collect) c (λ (r : Room). Accepted accepted next-ballot q (r .saved)) q
+              by-box n w p (proposal s v) proposing (Sends asks-to-collect) c (λ (r : Room). FitToCollect accepted next-ballot q (r .saved)) q
               (λ same. record { promised-to = le-refl next-ballot; as-before = ap accepted (sym same) })
               (record { promised-to = omega (arith, may .nothing-as-high q listed); as-before = refl });
         };
         underway = subst (Underway next-ballot collecting) (sym round-is) (record { in-phase = refl; own-round = refl });
         none-counted = ap (λ (d : Round). d .lasts) round-is;
         all-missing =
-            subst (Collecting accepted boxes v counts) (sym round-is)
+            subst (CollectingFor accepted boxes v counts) (sym round-is)
             (record { own-value = refl; best-so-far = none-yet accepted boxes counts (order .only-listed) (order .all-listed) });
         put-out = subst (Among asks-to-collect) (sym (c .puts-out)) (inl refl);
       }
@@ -93,22 +93,19 @@ module _ (n : ℕ) (w : World) (p s v : ℕ) (boxes : List ℕ) (kept : RunKept 
       subst (HighestAccepted w s boxes v) (sym (is ∙ begins .chosen))
       (best-is-highest w s boxes v (begins .before) (begins .best) one (begins .proposed) (begins .best-of-all))
 
-  majority : Majority n boxes
-  majority = record { smallest = may .smallest; all-boxes = may .all-boxes }
-
   round-finishes : (q₁ q₂ q₃ q₄ : List ℕ) → n ≤ maxBoxes → OneVote w s boxes → OrderOf boxes q₁ → OrderOf boxes q₂ → OrderOf boxes q₃ → OrderOf boxes q₄
       → Finishes step n w p s v boxes q₁ q₂ q₃ q₄
   round-finishes q₁ q₂ q₃ q₄ few one o₁ o₂ o₃ o₄ =
       let b = next-ballot in
       let w₁ = after step w p (proposal s v) in
       let collected =
-      half-round n p s b collecting collect last 0 (λ d. d .lasts) (Accepted accepted b) (ReportsAccepted accepted)
-      (Collecting accepted boxes v) (Begins p s b accepted boxes v) boxes q₁ q₂ few (may .a-box) (may .a-slot) majority o₁ o₂
+      half-round n p s b collecting collect last 0 (λ d. d .lasts) (FitToCollect accepted b) (ReportsAccepted accepted)
+      (CollectingFor accepted boxes v) (Begins p s b accepted boxes v) boxes q₁ q₂ few (may .a-box) (may .a-slot) (may .just-enough) o₁ o₂
       (collect-replies p s b accepted) (last-counter n p s b accepted boxes v) w₁ (ready-to-collect q₂ o₂) in
       let u = roomIn (collected .end) p s .round .own .value in
       let done =
-      half-round n p s b begun begin accept u (λ d. d .accepts) (PromisedTo b) ReportsNothing
-      (BegunFor u) (Agrees p s u) boxes q₃ q₄ few (may .a-box) (may .a-slot) majority o₃ o₄
+      half-round n p s b begun begin accept u (λ d. d .accepts) (FitToBegin b) ReportsNothing
+      (BegunFor u) (AgreesOn p s u) boxes q₃ q₄ few (may .a-box) (may .a-slot) (may .just-enough) o₃ o₄
       (begin-replies p s b u) (accept-counter n p s b u) (collected .end)
       (record {
         standing = record { kept = collected .standing .kept; fits = λ q listed. collected .standing .fits q listed .promised-to };
@@ -138,6 +135,6 @@ finishes-all =
     record {
       finishes = λ n w p s v boxes q₁ q₂ q₃ q₄ some few run may o₁ o₂ o₃ o₄.
           round-finishes n w p s v boxes (reachable-kept n w some few run) may q₁ q₂ q₃ q₄ few
-          (λ q r listed listed′. one-vote n some few w run q r s (may .all-boxes q listed) (may .all-boxes r listed′) (may .a-slot))
+          (λ q r listed listed′. one-vote n some few w run q r s (may .just-enough .all-boxes q listed) (may .just-enough .all-boxes r listed′) (may .a-slot))
           o₁ o₂ o₃ o₄;
     }

@@ -61,13 +61,13 @@ pub record Replies (p s b k : ℕ) (Fit : ℕ → Saved → Type 0) (Reports : �
   pub reports : Reports (h .index) second value
   pub becomes : onSlot h r e ≡ Becomes (room saves (r .round) (agreed r)) (Sends (parcel p (event k s (h .index) b second value)))
 
--- a box has promised at most b
-abbrev pub PromisedTo : ℕ → ℕ → Saved → Type 0
-PromisedTo b q d = d .promised .0 ≤ b
+-- fit to be asked by a Begin: the box has promised at most b
+abbrev pub FitToBegin : ℕ → ℕ → Saved → Type 0
+FitToBegin b q d = d .promised .0 ≤ b
 
--- and has accepted what it had accepted before
-pub record Accepted (accepted : ℕ → Vote) (b q : ℕ) (d : Saved) : Type 0 where
-  pub promised-to : PromisedTo b q d
+-- and by a Collect: it has also accepted what it had accepted before
+pub record FitToCollect (accepted : ℕ → Vote) (b q : ℕ) (d : Saved) : Type 0 where
+  pub promised-to : FitToBegin b q d
   pub as-before : d .accepted ≡ accepted q
 
 -- a Last reports what its box has accepted
@@ -78,8 +78,8 @@ ReportsAccepted accepted q second value = vote second value ≡ accepted q
 abbrev pub ReportsNothing : ℕ → ℕ → ℕ → Type 0
 ReportsNothing q second value = Unit {0}
 
-pub collect-replies : (p s b : ℕ) (accepted : ℕ → Vote) (h : Head) (r : Room) → Accepted accepted b (h .index) (r .saved)
-    → Replies p s b last (Accepted accepted b) (ReportsAccepted accepted) (event collect s p b 0 0) h r
+pub collect-replies : (p s b : ℕ) (accepted : ℕ → Vote) (h : Head) (r : Room) → FitToCollect accepted b (h .index) (r .saved)
+    → Replies p s b last (FitToCollect accepted b) (ReportsAccepted accepted) (event collect s p b 0 0) h r
 unfolding onSlot onCollect
 collect-replies p s b accepted h r fits =
     record {
@@ -91,8 +91,8 @@ collect-replies p s b accepted h r fits =
       becomes = simp (le-ltb b (promised r) (fits .promised-to));
     }
 
-pub begin-replies : (p s b v : ℕ) (h : Head) (r : Room) → PromisedTo b (h .index) (r .saved)
-    → Replies p s b accept (PromisedTo b) ReportsNothing (event begin s p b 0 v) h r
+pub begin-replies : (p s b v : ℕ) (h : Head) (r : Room) → FitToBegin b (h .index) (r .saved)
+    → Replies p s b accept (FitToBegin b) ReportsNothing (event begin s p b 0 v) h r
 unfolding onSlot onBegin
 begin-replies p s b v h r none-higher =
     record {

@@ -6,9 +6,8 @@ use mathlib.Core.List.{List, [], map, _++_}
 use mathlib.Core.Logic.{_≢_}
 use native.Mathlib.Omega.{arith}
 use lib.Count.{ones, ones-le}
-use lib.ListN.{length}
 use Rattle.ballots.specs.Ballot.{maxBoxes}
-use Rattle.ballots.specs.Boxes.{holdsBox, withBox, smallestMajority}
+use Rattle.ballots.specs.Boxes.{holdsBox, withBox}
 use Rattle.ballots.specs.BoxesLaws.{zero-holds-none}
 use Rattle.consensus.specs.declared.Head.{Head}
 use Rattle.consensus.specs.declared.Vote.{Vote}
@@ -24,7 +23,7 @@ use Rattle.consensus.specs.OnSlot.{allBoxes, better, toBegin, onLast, onAccept,
 use Rattle.consensus.specs.Step.{step}
 use Rattle.step_laws.specs.AwaitedLaws.{clauses-awaited}
 use Rattle.agreement.specs.Runs.{World, Among}
-use Rattle.agreement.specs.Finishing.{Listed, OrderOf, parcel, Turns, turn}
+use Rattle.agreement.specs.Finishing.{JustEnough, OrderOf, parcel, Turns, turn}
 use Rattle.agreement.specs.Finishing.Calls.{roomIn, turns-append}
 use Rattle.agreement.specs.Finishing.Asks.{Standing, Replies, ReportsAccepted, ReportsNothing, Asked, every-asked}
 use Rattle.agreement.specs.Finishing.Counts.{Underway, Counter, Waiting, every-counted}
@@ -33,7 +32,7 @@ use Rattle.agreement.specs.Finishing.Highest.{BestOf, better-is-best}
 -- ---- how Lasts are counted
 
 -- while the Lasts of some boxes are missing: the own value is v, and best the highest accepted by the others
-pub record Collecting (accepted : ℕ → Vote) (boxes : List ℕ) (v : ℕ) (missing : List ℕ) (d : Round) : Type 0 where
+pub record CollectingFor (accepted : ℕ → Vote) (boxes : List ℕ) (v : ℕ) (missing : List ℕ) (d : Round) : Type 0 where
   pub own-value : d .own .value ≡ v
   pub best-so-far : BestOf accepted boxes missing (d .best)
 
@@ -49,7 +48,7 @@ pub record Begins (p s b : ℕ) (accepted : ℕ → Vote) (boxes : List ℕ) (v 
   pub begins : m ≡ parcel allBoxes (event begin s p b 0 (r .round .own .value))
 
 pub last-counter : (n p s b : ℕ) (accepted : ℕ → Vote) (boxes : List ℕ) (v : ℕ)
-    → Counter n p s b collecting last (λ d. d .lasts) (ReportsAccepted accepted) (Collecting accepted boxes v) (Begins p s b accepted boxes v)
+    → Counter n p s b collecting last (λ d. d .lasts) (ReportsAccepted accepted) (CollectingFor accepted boxes v) (Begins p s b accepted boxes v)
 unfolding onSlot onLast enoughToCollect
 last-counter n p s b accepted boxes v =
     record {
@@ -96,12 +95,12 @@ abbrev pub BegunFor : ℕ → List ℕ → Round → Type 0
 BegunFor v missing d = d .own .value ≡ v
 
 -- p has agreed v and put out Success with it
-pub record Agrees (p s v : ℕ) (r : Room) (m : Message) : Type 0 where
+pub record AgreesOn (p s v : ℕ) (r : Room) (m : Message) : Type 0 where
   pub some-value : agreed r ≢ 0
   pub agreed-value : agreed r ≡ v
   pub tells-all : m ≡ parcel allBoxes (event success s p 0 0 (agreed r))
 
-pub accept-counter : (n p s b v : ℕ) → Counter n p s b begun accept (λ d. d .accepts) ReportsNothing (BegunFor v) (Agrees p s v)
+pub accept-counter : (n p s b v : ℕ) → Counter n p s b begun accept (λ d. d .accepts) ReportsNothing (BegunFor v) (AgreesOn p s v)
 unfolding onSlot onAccept enoughToBegin
 accept-counter n p s b v =
     record {
@@ -147,14 +146,9 @@ pub record HalfDone (n p s b a k : ℕ) (Fit : ℕ → Saved → Type 0) (Closed
   pub put-out : Among message (end .parcels)
   pub closed : Closed (roomIn end p s) message
 
--- the listed boxes: all of the n, and as many as the smallest majority
-pub record Majority (n : ℕ) (boxes : List ℕ) : Type 0 where
-  pub smallest : length boxes ≡ smallestMajority n
-  pub all-boxes : (q : ℕ) → Listed q boxes → q < n
-
 module _ (n p s b phase a k v : ℕ) (counted : Round → ℕ) (Fit : ℕ → Saved → Type 0) (Reports : ℕ → ℕ → ℕ → Type 0)
     (Missing : List ℕ → Round → Type 0) (Closed : Room → Message → Type 0) (boxes asks counts : List ℕ)
-    (few : n ≤ maxBoxes) (box : p < n) (slot : s < slots) (majority : Majority n boxes)
+    (few : n ≤ maxBoxes) (box : p < n) (slot : s < slots) (just : JustEnough n boxes)
     (asks-all : OrderOf boxes asks) (counts-all : OrderOf boxes counts)
     (replies : (h : Head) (r : Room) → Fit (h .index) (r .saved) → Replies p s b k Fit Reports (event a s p b 0 v) h r)
     (counter : Counter n p s b phase k counted Reports Missing Closed) where
@@ -173,17 +167,17 @@ module _ (n p s b phase a k v : ℕ) (counted : Round → ℕ) (Fit : ℕ → Sa
         within = counts-all .only-listed;
         replied = λ q listed. all .replied q (asks-all .all-listed q (counts-all .only-listed q listed));
         not-counted = λ q listed. ap (λ (x : ℕ). holdsBox x q) still-none ∙ zero-holds-none q;
-        in-all = omega (arith, ap ones still-none, ones-le 0 0 (omega arith), counts-all .as-many, majority .smallest);
+        in-all = omega (arith, ap ones still-none, ones-le 0 0 (omega arith), counts-all .as-many, just .smallest);
       }
 
   pub half-round : (w : World) → Ready n p s b phase a v counted Fit (Missing counts) boxes w → HalfDone n p s b a k Fit Closed boxes asks counts w
   half-round w ready =
       let running : roomIn w p s .round .phase ≢ idle = λ is. counter .runs (sym (ready .underway .in-phase) ∙ is) in
       let all =
-      every-asked n p s b a k v Fit Reports boxes box slot (majority .all-boxes) replies asks w (asks-all .only-listed) (ready .standing) (ready .put-out) running in
+      every-asked n p s b a k v Fit Reports boxes box slot (just .all-boxes) replies asks w (asks-all .only-listed) (ready .standing) (ready .put-out) running in
       let done =
-      every-counted n p s b phase k counted Fit Reports Missing Closed boxes few box slot (majority .all-boxes) counter counts (all .end)
-      (omega (arith, counts-all .as-many, majority .smallest)) (asked-waits w ready all) in
+      every-counted n p s b phase k counted Fit Reports Missing Closed boxes few box slot (just .all-boxes) counter counts (all .end)
+      (omega (arith, counts-all .as-many, just .smallest)) (asked-waits w ready all) in
       record {
         end = done .end;
         turns = turns-append step n p s b w (all .end) (done .end) (map (λ q. turn q a p) asks) (map (λ q. turn p k q) counts) (all .turns) (done .turns);

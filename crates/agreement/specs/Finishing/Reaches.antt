@@ -15,7 +15,7 @@ use Rattle.consensus.specs.Step.{step}
 use Rattle.step_laws.specs.LayoutLaws.{freshRoom, roomAt-fresh}
 use Rattle.agreement.specs.Runs.{StepFunction, World, start, Run, after, says, hasPromised}
 use Rattle.agreement.specs.Runs.Run.{still, _and-then_}
-use Rattle.agreement.specs.Finishing.{Listed, Distinct, OrderOf, Turn, Turns, proposal, MayFinish, Finishes, FinishesAll}
+use Rattle.agreement.specs.Finishing.{Listed, Distinct, JustEnough, OrderOf, Turn, Turns, proposal, MayFinish, Finishes, FinishesAll}
 use Rattle.agreement.specs.Finishing.Turns.{none, next}
 use Rattle.agreement.specs.Finishing.All.{finishes-all}
 
@@ -39,7 +39,7 @@ first-many zero = refl
 first-many (suc m) = ap suc (first-many m)
 
 -- a list of distinct boxes is an order of itself
-same-order : (boxes : List ℕ) → Distinct boxes → OrderOf boxes boxes
+pub same-order : (boxes : List ℕ) → Distinct boxes → OrderOf boxes boxes
 same-order boxes distinct =
     record { as-many = refl; distinct = distinct; all-listed = λ q listed. listed; only-listed = λ q listed. listed }
 
@@ -55,9 +55,7 @@ turns-run f n p s b w u v ts run (next {i = i} {ts = rest} e takes turns) =
 -- a box and a smallest majority of boxes whose tables are fresh
 pub record Fresh (n : ℕ) (w : World) (p : ℕ) (boxes : List ℕ) : Type 0 where
   pub a-box : p < n
-  pub smallest : length boxes ≡ smallestMajority n
-  pub distinct : Distinct boxes
-  pub all-boxes : (q : ℕ) → Listed q boxes → q < n
+  pub just-enough : JustEnough n boxes
   pub box-fresh : w .tables p ≡ fresh n p
   pub boxes-fresh : (q : ℕ) → Listed q boxes → w .tables q ≡ fresh n q
 
@@ -74,9 +72,7 @@ module _ (n : ℕ) (w : World) (s : ℕ) where
         a-value = value;
         nothing-agreed = ap (λ (r : Room). agreed r) (room-of-fresh p (are .box-fresh));
         x-left = omega (arith, none-promised p (are .box-fresh));
-        smallest = are .smallest;
-        distinct = are .distinct;
-        all-boxes = are .all-boxes;
+        just-enough = are .just-enough;
         nothing-as-high = λ q listed. omega (arith, none-promised q (are .boxes-fresh q listed));
       }
 
@@ -84,7 +80,7 @@ module _ (n : ℕ) (w : World) (s : ℕ) where
 pub fresh-finish : (f : StepFunction) → FinishesAll f → (n : ℕ) (w : World) (p s v : ℕ) (boxes : List ℕ) → 1 ≤ n → n ≤ maxBoxes → s < slots → v ≢ 0
     → Run f n (start n) w → Fresh n w p boxes → Finishes f n w p s v boxes boxes boxes boxes boxes
 fresh-finish f finishes n w p s v boxes some few slot value run are =
-    let order = same-order boxes (are .distinct) in
+    let order = same-order boxes (are .just-enough .distinct) in
     finishes .finishes n w p s v boxes boxes boxes boxes boxes some few run (fresh-may-finish n w s p v boxes slot value are) order order order order
 
 pub fresh-agree : (f : StepFunction) → FinishesAll f → (n : ℕ) (w : World) (p s v : ℕ) (boxes : List ℕ) → 1 ≤ n → n ≤ maxBoxes → s < slots → v ≢ 0
@@ -103,9 +99,11 @@ pub all-fresh : (n p : ℕ) → 1 ≤ n → p < n → Fresh n (start n) p (first
 all-fresh n p some box =
     record {
       a-box = box;
-      smallest = first-many (smallestMajority n);
-      distinct = first-distinct (smallestMajority n);
-      all-boxes = λ q listed. omega (arith, first-below (smallestMajority n) q listed);
+      just-enough = record {
+        smallest = first-many (smallestMajority n);
+        distinct = first-distinct (smallestMajority n);
+        all-boxes = λ q listed. omega (arith, first-below (smallestMajority n) q listed);
+      };
       box-fresh = refl;
       boxes-fresh = λ q listed. refl;
     }

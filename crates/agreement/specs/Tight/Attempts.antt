@@ -15,8 +15,9 @@ use Rattle.consensus.specs.declared.Message.{Message}
 use Rattle.consensus.specs.Events.{propose, restart}
 use Rattle.agreement.specs.Runs.{StepFunction, World, start, Among, after, Run, says, hasPromised, hasAccepted}
 use Rattle.agreement.specs.Runs.Run.{still}
-use Rattle.agreement.specs.Finishing.{OrderOf, Turn, TakesTurn, Turns, proposal, MayFinish, replies}
+use Rattle.agreement.specs.Finishing.{JustEnough, Turn, TakesTurn, Turns, proposal, MayFinish, replies}
 use Rattle.agreement.specs.Finishing.Turns.{none, next}
+use Rattle.agreement.specs.Finishing.Reaches.{same-order}
 use Rattle.agreement.specs.Promises.{Promises}
 use Rattle.agreement.specs.Tight.Replays.{sameEvent, same-event, Call, worldAfter, mayMakeAll, run-of, apart}
 
@@ -93,9 +94,13 @@ module _ (f : StepFunction) (s b : ℕ) where
 abbrev itself : List ℕ
 itself = 0 ∷ []
 
-itself-in-order : OrderOf itself itself
-itself-in-order =
-    record { as-many = refl; distinct = (λ listed. listed, tt); all-listed = λ q listed. listed; only-listed = λ q listed. listed }
+just-itself : JustEnough 1 itself
+just-itself =
+    record {
+      smallest = refl;
+      distinct = (λ listed. listed, tt);
+      all-boxes = λ q listed. ⊎-elim (λ same. omega arith) (λ (no-more : ⊥). absurd no-more) listed;
+    }
 
 alone-may-finish : (w : World) (v : ℕ) → v ≢ 0 → says w 0 0 ≡ 0 → leb (nextX (hasPromised w 0 0)) maxX ≡ true → MayFinish 1 w 0 0 v itself
 alone-may-finish w v some nothing left =
@@ -105,9 +110,7 @@ alone-may-finish w v some nothing left =
       a-value = some;
       nothing-agreed = nothing;
       x-left = leb-true _ _ left;
-      smallest = refl;
-      distinct = (λ listed. listed, tt);
-      all-boxes = λ q listed. ⊎-elim (λ same. omega arith) (λ (no-more : ⊥). absurd no-more) listed;
+      just-enough = just-itself;
       nothing-as-high = λ q listed.
           ⊎-elim (λ same. omega (arith, ap (λ (x : ℕ). hasPromised w x 0) same, next-above (hasPromised w 0 0) 0)) (λ (no-more : ⊥). absurd no-more) listed;
     }
@@ -143,11 +146,12 @@ attempt-breaks f a shown promises =
     let left = and-eq-true-iff _ _ .0 (none-accepted .0) in
     let nothing = and-eq-true-iff _ _ .0 (left .0) in
     let some = and-eq-true-iff _ _ .0 (nothing .0) in
+    let order = same-order itself (just-itself .distinct) in
     let run : Run f 1 (start 1) w = run-of f 1 _ _ (a .before) still (some .0) in
     let done =
     promises .finishes .finishes 1 w 0 0 (a .value) itself itself itself itself itself (lit≤ tt) (lit≤ tt) run
     (alone-may-finish w (a .value) (apart (a .value) 0 (some .1)) (eqb-true _ _ (nothing .1)) (left .1))
-    itself-in-order itself-in-order itself-in-order itself-in-order in
+    order order order order in
     let accepted-none : hasAccepted w 0 0 .ballot .0 ≡ 0 = eqb-true _ _ (none-accepted .1) in
     apart (says (turned f 0 b asked turns (a .heard)) 0 0) (a .value) (other .1)
     (sym (ap (λ (u : World). says u 0 0) (turns-end f 0 b 1 0 asked (done .end) turns (a .heard) (done .turns) (one-way .1)))

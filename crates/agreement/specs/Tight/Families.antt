@@ -25,10 +25,11 @@ use Rattle.step_laws.specs.EventTests.{clauses-restart}
 use Rattle.agreement.specs.Runs.{StepFunction, World, start, Among, Delivered, MayCall, Run, CalledOnly, answerTo, after, says}
 use Rattle.agreement.specs.Runs.Run.{still, _and-then_}
 use Rattle.agreement.specs.Runs.Keeps.{withMessage-keeps, withMessage-adds, table-elsewhere}
-use Rattle.agreement.specs.Finishing.{Listed, Distinct, parcel, Turn, TakesTurn, Turns, turn, proposal, Finishes, replies}
+use Rattle.agreement.specs.Finishing.{Listed, JustEnough, parcel, Turn, TakesTurn, Turns, turn, proposal, Finishes, replies}
 use Rattle.agreement.specs.Finishing.Turns.{none, next}
 use Rattle.agreement.specs.Finishing.Reaches.{firstBoxes, all-fresh, fresh-finish, fresh-agree, turns-run}
 use Rattle.agreement.specs.Promises.{Count, Promises}
+use Rattle.agreement.specs.Tight.Replays.{Restart}
 
 -- ---- a round at the start
 
@@ -163,7 +164,7 @@ saying-at-once-breaks f n p s v j s′ count box slot some box′ slot′ said p
         | yes there ↦
             let done = finishes-first f promises n p s v count box slot some in
             said (subst⁻¹ (λ (x : ℕ). says w x s′ ≡ 0) here (subst⁻¹ (λ (x : ℕ). says w p x ≡ 0) there
-            (first-finds-nothing f n p s _ w (done .end) boxes boxes boxes boxes (omega (arith, all-fresh n p (count .some) box .smallest)) (done .turns))))
+            (first-finds-nothing f n p s _ w (done .end) boxes boxes boxes boxes (omega (arith, all-fresh n p (count .some) box .just-enough .smallest)) (done .turns))))
       ]
     ]
   where
@@ -184,33 +185,30 @@ uncalled-stands called (_and-then_ {u = x} {i = i} run may) only q out =
 
 -- a smallest majority of boxes at which no call was
 pub record Uncalled (n : ℕ) (called : ℕ → Type 0) (boxes : List ℕ) : Type 0 where
-  pub smallest : length boxes ≡ smallestMajority n
-  pub distinct : Distinct boxes
-  pub all-boxes : (q : ℕ) → Listed q boxes → q < n
+  pub just-enough : JustEnough n boxes
   pub none-called : (q : ℕ) → Listed q boxes → ¬ called q
 
 -- where M boxes were not asked, nobody says anything: they could still agree on another value among themselves
 pub no-value-without-a-vote :
     (f : StepFunction) → Promises f → (n : ℕ) (w : World) → Count n → (run : Run f n (start n) w) (called : ℕ → Type 0) → CalledOnly called run →
     (boxes : List ℕ) → Uncalled n called boxes → (i s : ℕ) → i < n → s < slots → says w i s ≡ 0
-no-value-without-a-vote f promises n w count run called only [] out i s box slot = absurd (omega (arith, out .smallest))
+no-value-without-a-vote f promises n w count run called only [] out i s box slot = absurd (omega (arith, out .just-enough .smallest))
 no-value-without-a-vote f promises n w count run called only (p ∷ boxes) out i s box slot =
     elim (ℕ-discrete (says w i s) 0) [
       | yes nothing ↦ nothing
       | no said ↦
+          let box-p = out .just-enough .all-boxes p (inl refl) in
           let agrees =
           fresh-agree f (promises .finishes) n w p s (suc (says w i s)) (p ∷ boxes) (count .some) (count .few) slot (omega arith) run (record {
-            a-box = out .all-boxes p (inl refl);
-            smallest = out .smallest;
-            distinct = out .distinct;
-            all-boxes = out .all-boxes;
+            a-box = box-p;
+            just-enough = out .just-enough;
             box-fresh = uncalled-stands called run only p (out .none-called p (inl refl));
             boxes-fresh = λ q listed. uncalled-stands called run only q (out .none-called q listed);
           }) in
           absurd (omega (
             arith,
             agrees .2,
-            promises .one-value n w (agrees .0) i p s count run (agrees .1) box (out .all-boxes p (inl refl)) slot said (omega (arith, agrees .2)),
+            promises .one-value n w (agrees .0) i p s count run (agrees .1) box box-p slot said (omega (arith, agrees .2)),
           ))
     ]
 
@@ -222,15 +220,12 @@ no-success-breaks f never promises =
 
 -- ---- ones that do not heed Restart or Success
 
-abbrev restartEvent : Event
-restartEvent = event restart 0 0 0 0 0
-
-restart-ok : (n : ℕ) → eventOk n restartEvent ≡ true
-restart-ok n = clauses-restart n restartEvent refl (record { no-slot = refl; no-from = refl; no-ballot = refl; no-second = refl; no-value = refl })
+restart-ok : (n : ℕ) → eventOk n Restart ≡ true
+restart-ok n = clauses-restart n Restart refl (record { no-slot = refl; no-from = refl; no-ballot = refl; no-second = refl; no-value = refl })
 
 pub refusing-restart-breaks : (f : StepFunction) → ((t : List ℕ) (e : Event) → e .kind ≡ restart → answerNumber (f t e .answer) ≢ 0) → ¬ Promises f
 refusing-restart-breaks f refuses promises =
-    refuses _ restartEvent refl (promises .restart-is-done 1 (start 1) 0 restartEvent one-box still (lit< tt) refl (restart-ok 1) .answered)
+    refuses _ Restart refl (promises .restart-is-done 1 (start 1) 0 Restart one-box still (lit< tt) refl (restart-ok 1) .answered)
 
 -- an event of kind k never changes what a slot says
 abbrev pub Unheeded : StepFunction → ℕ → Type 0
@@ -238,15 +233,15 @@ Unheeded f k = (t : List ℕ) (e : Event) (s : ℕ) → e .kind ≡ k → agreed
 
 module _ (f : StepFunction) (promises : Promises f) where
   abbrev forgotten : World
-  forgotten = after f (ended f promises) 0 restartEvent
+  forgotten = after f (ended f promises) 0 Restart
 
   forgets : says forgotten 0 0 ≡ 0
   forgets =
-      promises .restart-is-done 1 (ended f promises) 0 restartEvent one-box (ended-run f promises) (lit< tt) refl (restart-ok 1) .says-nothing 0 (lit< tt)
+      promises .restart-is-done 1 (ended f promises) 0 Restart one-box (ended-run f promises) (lit< tt) refl (restart-ok 1) .says-nothing 0 (lit< tt)
 
 pub unheeded-restart-breaks : (f : StepFunction) → Unheeded f restart → ¬ Promises f
 unheeded-restart-breaks f ignores promises =
-    finishes-alone f promises .agreed (sym (ignores (ended f promises .tables 0) restartEvent 0 refl) ∙ forgets f promises)
+    finishes-alone f promises .agreed (sym (ignores (ended f promises .tables 0) Restart 0 refl) ∙ forgets f promises)
 
 pub unheeded-success-breaks : (f : StepFunction) → Unheeded f success → ¬ Promises f
 unheeded-success-breaks f ignores promises =
@@ -257,7 +252,7 @@ unheeded-success-breaks f ignores promises =
     (_and-then_ (ended-run f promises) (record { a-box = lit< tt; source = inl (inr refl) })) (lit< tt)
     (record {
       message = parcel allBoxes e;
-      put-out = withMessage-adds (parcel allBoxes e) (answerTo f (done .end) 0 restartEvent) (done .end .parcels) (done .told-to-all);
+      put-out = withMessage-adds (parcel allBoxes e) (answerTo f (done .end) 0 Restart) (done .end .parcels) (done .told-to-all);
       carried = refl;
       addressed = inr refl;
     })

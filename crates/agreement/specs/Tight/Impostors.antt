@@ -85,10 +85,14 @@ unfolding stepKeeping becoming
 agreesAtPropose =
     stepKeeping (λ h r. wellKept h (agreeing 0 r)) (instead propose (λ h r e. becoming (agreeing (e .value)) (onPropose h r e)))
 
--- "a majority taken from an invented count": the slot's rule, which asks the box count for its two majorities alone, is told another one
+-- the slot's rule, which asks the box count for its two majorities alone, told another one
+abbrev pub told : (ℕ → ℕ) → SlotRule
+told count h r e = onSlot (record { boxes = count (h .boxes); index = h .index }) r e
+
+-- "a majority taken from an invented count": any function of the box count
 unfoldable pub inventsCount : (ℕ → ℕ) → StepFunction
 unfolding stepKeeping
-inventsCount count = stepWith (λ h r e. onSlot (record { boxes = count (h .boxes); index = h .index }) r e)
+inventsCount count = stepWith (told count)
 
 -- ---- "Mistakes to shut out"
 

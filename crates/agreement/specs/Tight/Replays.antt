@@ -18,6 +18,7 @@ use Rattle.consensus.specs.Answers.{answerNumber}
 use Rattle.consensus.specs.OnSlot.{allBoxes}
 use Rattle.agreement.specs.Runs.{StepFunction, World, start, Delivered, MayCall, Run, answerTo, after, proposalsIn, says, hasPromised}
 use Rattle.agreement.specs.Runs.Run.{still, _and-then_}
+use Rattle.agreement.specs.Finishing.{proposal}
 use Rattle.agreement.specs.Promises.{Promises}
 
 -- ---- tests
@@ -112,7 +113,7 @@ may-make n w c ok =
 -- ---- events about slot 0
 
 abbrev pub Propose : ℕ → Event
-Propose v = event propose 0 0 0 0 v
+Propose v = proposal 0 v
 
 abbrev pub Collect : ℕ → ℕ → Event
 Collect from b = event collect 0 from b 0 0

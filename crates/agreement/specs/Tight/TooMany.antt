@@ -45,7 +45,7 @@ use Rattle.agreement.specs.Finishing.{Listed, Turn, turn, Turns, proposa
 use Rattle.agreement.specs.Finishing.Turns.{none, next}
 use Rattle.agreement.specs.Finishing.Reaches.{firstBoxes, first-below, fresh-finish, all-fresh}
 use Rattle.agreement.specs.Promises.{Count, Promises}
-use Rattle.agreement.specs.Tight.Impostors.{SlotRule, stepWith, inventsCount}
+use Rattle.agreement.specs.Tight.Impostors.{stepWith, told, inventsCount}
 use Rattle.agreement.specs.Tight.Ways.{settled, call-ways}
 use Rattle.agreement.specs.Tight.Ways.Ways.{refuses, restarts, settles}
 
@@ -123,10 +123,6 @@ module _ (m : ℕ) (few : m ≤ maxBoxes) (h : Head) (r : Room) (e : Event) (fir
       ]
 
 -- ---- one call
-
--- the slot rule that is told another box count
-abbrev told : (ℕ → ℕ) → SlotRule
-told count h r e = onSlot (record { boxes = count (h .boxes); index = h .index }) r e
 
 inventsCount-is : (count : ℕ → ℕ) (t : List ℕ) (e : Event) → inventsCount count t e ≡ stepWith (told count) t e
 unfolding inventsCount
