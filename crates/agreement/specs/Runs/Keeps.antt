@@ -30,7 +30,7 @@ use Rattle.step_laws.specs.HeadLaws.{HeadKept, table-clauses, clauses-table}
 use Rattle.step_laws.specs.KeptLaws.{SavedKept, kept-clauses, clauses-kept, clauses-saved, both-zero}
 use Rattle.step_laws.specs.OutcomeLaws.{idle-room-kept}
 use Rattle.step_laws.specs.RestartKeeps.{all-saved-kept}
-use Rattle.step_laws.specs.EventLaws.{names-a-slot}
+use Rattle.step_laws.specs.EventLaws.{ProposeKept, propose-clauses, names-a-slot}
 use Rattle.step_laws.specs.StepCases.{PassesRules, ReachesSlot, RestartsAll, step-at-restart, step-bad-event}
 use Rattle.step_laws.specs.StepKeeps.{step-keeps-length, step-keeps-head, step-keeps-wellKept}
 use Rattle.step_laws.specs.SentLaws.{Sent, MayAnswer, step-may-answer, step-sends}
@@ -223,6 +223,15 @@ call-never-answers-3 n w i e k may three =
       | inr past ↦ omega arith
     ])
     (λ bad. omega (arith, ap (λ (x : Stepped). answerNumber (x .answer)) (step-bad-event (w .tables i) e (box .table-ok) bad)))
+
+-- an event that comes to its slot is a Propose that keeps the rules, or was put out: what holds of those holds of it
+pub proposed-or-put-out : (P : Event → Type 0) (n : ℕ) (w : World) (i : ℕ) (e : Event) → MayCall n w i e → ReachesSlot (w .tables i) e
+    → (e .kind ≡ propose → ProposeKept (headOf (w .tables i) .boxes) e → P e) → ((m : Message) → Among m (w .parcels) → P (m .event)) → P e
+proposed-or-put-out P n w i e may r of-propose of-parcels =
+    ⊎-elim
+    (⊎-elim (λ kind. of-propose kind (propose-clauses _ e kind (r .passes .event-ok))) (λ kind. absurd (r .no-restart kind)))
+    (λ delivered. subst P (delivered .carried) (of-parcels (delivered .message) (delivered .put-out)))
+    (may .source)
 
 -- what is delivered keeps the rules
 pub delivered-ok : (n : ℕ) (w : World) (i : ℕ) (e : Event) → RunKept n w → Delivered w i e → eventOk n e ≡ true

@@ -3,7 +3,7 @@
 use Prim.Native.Nat.{ℕ, _+_, _≤_, _<_}
 use mathlib.Core.Path.{_≡_, sym, ap, subst, subst₂, _∙_}
 use mathlib.Core.Bool.{Bool, true, not, _&&_, true≢false}
-use mathlib.Core.Logic.{_≢_, ⊎-elim}
+use mathlib.Core.Logic.{_≢_}
 use mathlib.Core.List.{List}
 use native.Mathlib.Decide.{ℕ-discrete}
 use native.Mathlib.Omega.{arith}
@@ -30,15 +30,15 @@ use Rattle.step_laws.specs.ByTest.{by-either}
 use Rattle.step_laws.specs.HeadLaws.{HeadKept, table-clauses}
 use Rattle.step_laws.specs.KeptLaws.{WellKept, kept-clauses}
 use Rattle.step_laws.specs.LayoutLaws.{roomAt-fresh}
-use Rattle.step_laws.specs.EventLaws.{names-a-slot, event-cases, propose-clauses}
+use Rattle.step_laws.specs.EventLaws.{names-a-slot, event-cases}
 use Rattle.step_laws.specs.EventLaws.EventCases.{a-propose, a-collect, a-last, a-begin, an-accept, a-success, an-oldRound, a-restart}
 use Rattle.step_laws.specs.RefusalLaws.{isRefusal}
 use Rattle.step_laws.specs.StepCases.{ReachesSlot, RestartsAll, roomAfter, answerOf, step-at-restart, step-cases}
 use Rattle.step_laws.specs.StepCases.StepCases.{refuses, restarts, settles}
 use Rattle.step_laws.specs.StepKeeps.{step-room-at-slot, step-answer-at-slot, step-keeps-other, step-restarts}
-use Rattle.agreement.specs.Runs.{World, start, Among, Outside, Delivered, answerTo, after, MayCall, Run, proposals, proposalsIn, hasPromised}
+use Rattle.agreement.specs.Runs.{World, start, Among, answerTo, after, MayCall, Run, proposals, proposalsIn, hasPromised}
 use Rattle.agreement.specs.Runs.Run.{still, _and-then_}
-use Rattle.agreement.specs.Runs.Keeps.{withMessage-keeps}
+use Rattle.agreement.specs.Runs.Keeps.{withMessage-keeps, proposed-or-put-out}
 
 -- ---- the statement
 
@@ -178,17 +178,9 @@ module _ (t : List ℕ) (e : Event) (c : ℕ) (low : (s : ℕ) → s < slots →
         | settles r ↦ settled-low r (said r)
       ]
 
--- a Propose that reaches its slot has no ballots, and what is delivered was put out
+-- a Propose has no ballots
 called-low : (n : ℕ) (w : World) (i : ℕ) (e : Event) (c : ℕ) → WorldLow c w → MayCall n w i e → ReachesSlot (w .tables i) e → EventLow c e
-called-low n w i e c k may r =
-    ⊎-elim
-    (λ (outside : Outside e).
-    ⊎-elim
-    (λ (p : e .kind ≡ propose). let x = propose-clauses (headOf (w .tables i) .boxes) e p (r .passes .event-ok) in omega arith)
-    (λ (p : e .kind ≡ restart). absurd (r .no-restart p))
-    outside)
-    (λ (d : Delivered w i e). subst (EventLow c) (d .carried) (k .parcels-low (d .message) (d .put-out)))
-    (may .source)
+called-low n w i e c k may r = proposed-or-put-out (EventLow c) n w i e may r (λ kind x. omega arith) (k .parcels-low)
 
 call-low : (n : ℕ) (w : World) (i : ℕ) (e : Event) (c : ℕ) → WorldLow c w → MayCall n w i e
     → WorldLow (c + proposals (eqb (e .kind) propose) (answerTo step w i e)) (after step w i e)

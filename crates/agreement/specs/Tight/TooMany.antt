@@ -4,7 +4,7 @@ use Prim.Native.Nat.{ℕ, _^_, _≤_, _<_}
 use mathlib.Core.Path.{_≡_, refl, sym, ap, subst, _∙_}
 use mathlib.Core.Bool.{true, not, _&&_, true≢false}
 use mathlib.Core.List.{List, [], _∷_, _++_, map}
-use mathlib.Core.Logic.{_≢_, inl, inr, ⊎-elim}
+use mathlib.Core.Logic.{_≢_, inl, inr}
 use native.Mathlib.Decide.{ℕ-discrete}
 use native.Mathlib.Nat.{le-refl}
 use native.Mathlib.Omega.{arith}
@@ -27,20 +27,20 @@ use Rattle.consensus.specs.declared.Outcome.{Outcome}
 use Rattle.consensus.specs.Room.{promised, phase, ownBallot, lasts, agreed, idle, collecting, begun}
 use Rattle.consensus.specs.Layout.{slots, tableSize, headOf, roomAt}
 use Rattle.consensus.specs.Enough.{enoughToCollect}
-use Rattle.consensus.specs.Events.{propose, collect, last, begin, accept, success, restart, eventOk}
+use Rattle.consensus.specs.Events.{collect, last, begin, accept, success, restart, eventOk}
 use Rattle.consensus.specs.Answers.{numbersOf}
 use Rattle.consensus.specs.OnSlot.{awaited, onPropose, onCollect, onLast, onAccept, onOldRound, onSlot}
 use Rattle.consensus.specs.Step.{Stepped, refuse, settle, restartSlots}
 use Rattle.step_laws.specs.ByTest.{by-test, by-either}
 use Rattle.step_laws.specs.HeadLaws.{table-clauses}
 use Rattle.step_laws.specs.LayoutLaws.{headOf-restartSlots, roomAt-restarted, roomAt-fresh}
-use Rattle.step_laws.specs.EventLaws.{names-a-slot, event-cases, propose-clauses}
+use Rattle.step_laws.specs.EventLaws.{names-a-slot, event-cases}
 use Rattle.step_laws.specs.EventLaws.EventCases.{a-propose, a-collect, a-last, a-begin, an-accept, a-success, an-oldRound, a-restart}
 use Rattle.step_laws.specs.RefusalLaws.{isRefusal}
 use Rattle.step_laws.specs.StepCases.{ReachesSlot, roomAfter, answerOf, settle-head, settle-room, settle-other, settle-answer}
-use Rattle.agreement.specs.Runs.{StepFunction, World, start, Among, Outside, Delivered, answerTo, after, MayCall}
+use Rattle.agreement.specs.Runs.{StepFunction, World, start, Among, answerTo, after, MayCall}
 use Rattle.agreement.specs.Runs.Run.{still}
-use Rattle.agreement.specs.Runs.Keeps.{headIn, withMessage-keeps}
+use Rattle.agreement.specs.Runs.Keeps.{headIn, withMessage-keeps, proposed-or-put-out}
 use Rattle.agreement.specs.Finishing.{Listed, Turn, turn, Turns, proposal, replies}
 use Rattle.agreement.specs.Finishing.Turns.{none, next}
 use Rattle.agreement.specs.Finishing.Reaches.{firstBoxes, first-below, fresh-finish, all-fresh}
@@ -183,17 +183,9 @@ module _ (count : ℕ → ℕ) (n m : ℕ) (few : m ≤ maxBoxes) (too-many : m 
           | settles r is ↦ subst (SteppedWaits n m i) (sym is) (settled-waits r (said r))
         ])
 
-  -- a Propose that reaches its slot is from box 0, and what is delivered was put out
+  -- a Propose is from box 0
   called-waits : (w : World) (i : ℕ) (e : Event) → i < m → WorldWaits n m w → MayCall n w i e → ReachesSlot (w .tables i) e → EventWaits m e
-  called-waits w i e first k may r =
-      ⊎-elim
-      (λ (outside : Outside e).
-      ⊎-elim
-      (λ (p : e .kind ≡ propose). let x = propose-clauses (headOf (w .tables i) .boxes) e p (r .passes .event-ok) in omega arith)
-      (λ (p : e .kind ≡ restart). absurd (r .no-restart p))
-      outside)
-      (λ (d : Delivered w i e). subst (EventWaits m) (d .carried) (k .parcels-wait (d .message) (d .put-out)))
-      (may .source)
+  called-waits w i e first k may r = proposed-or-put-out (EventWaits m) n w i e may r (λ kind x. omega arith) (k .parcels-wait)
 
   call-waits : (w : World) (i : ℕ) (e : Event) → WorldWaits n m w → i < m → MayCall n w i e → WorldWaits n m (after (inventsCount count) w i e)
   call-waits w i e k first may =
