@@ -64,8 +64,8 @@ PromisesStayLow f =
     (n : ℕ) (w : World) (i s : ℕ) → Count n → (run : Run f n (start n) w) → i < n → s < slots → xOf (hasPromised w i s) ≤ proposalsIn run
 
 -- h. A Success that is delivered to a box which says nothing of the slot leaves it saying that value.
-abbrev pub SuccessIsHeard : StepFunction → Type 0
-SuccessIsHeard f =
+abbrev pub SuccessIsHeeded : StepFunction → Type 0
+SuccessIsHeeded f =
     (n : ℕ) (w : World) (i : ℕ) (e : Event) → Count n → Run f n (start n) w → i < n → Delivered w i e → e .kind ≡ success →
     says w i (e .slot .0) ≡ 0 → says (after f w i e) i (e .slot .0) ≡ e .value
 
@@ -82,7 +82,7 @@ pub record Promises (f : StepFunction) : Type 0 where
   pub finishes : FinishesAll f
   pub some-run-agrees : SomeRunAgrees f
   pub promises-stay-low : PromisesStayLow f
-  pub success-is-heard : SuccessIsHeard f
+  pub success-is-heeded : SuccessIsHeeded f
   pub restart-is-done : RestartIsDone f
 
 pub step-keeps-promises : Promises step
@@ -100,6 +100,6 @@ step-keeps-promises =
       finishes = finishes-all;
       some-run-agrees = λ n p s v count. reaches-agreement n p s v (count .some) (count .few);
       promises-stay-low = λ n w i s count run box. Low.promises-stay-low n w i s run;
-      success-is-heard = λ n w i e count. Heeds.success-is-heard n (count .some) (count .few) w i e;
+      success-is-heeded = λ n w i e count. Heeds.success-is-heeded n (count .some) (count .few) w i e;
       restart-is-done = λ n w i e count. Heeds.restart-is-done n (count .some) (count .few) w i e;
     }

@@ -41,11 +41,11 @@ pub record Underway (b phase : ℕ) (d : Round) : Type 0 where
   pub own-round : d .own .ballot .0 ≡ b
 
 -- a sender counted while the counted are too few: the round goes on
-pub record CountsOne (n p b phase q : ℕ) (counted : Round → ℕ) (Tallied : Round → Type 0) (r : Room) (e : Event) : Type 0 where
+pub record CountsOne (n p b phase q : ℕ) (counted : Round → ℕ) (Missing : Round → Type 0) (r : Room) (e : Event) : Type 0 where
   pub goes-on : Round
   pub underway : Underway b phase goes-on
   pub counted-too : counted goes-on ≡ withBox (counted (r .round)) q
-  pub tallied : Tallied goes-on
+  pub missing : Missing goes-on
   pub becomes : onSlot (headIn n p) r e ≡ Becomes (room (r .saved) goes-on (agreed r)) Quiet
 
 -- the sender that makes them enough: the room and the message are as Closed says
@@ -153,7 +153,7 @@ module _ (n p s b phase k : ℕ) (counted : Round → ℕ) (Fit : ℕ → Saved 
           turns = one-turn r Quiet c refl;
           standing = stands-after (one .goes-on) (agreed (roomIn w p s)) Quiet c;
           underway = subst (Underway b phase) (sym round) (one .underway);
-          missing = subst (Missing qs) (sym round) (one .tallied);
+          missing = subst (Missing qs) (sym round) (one .missing);
           counted-too = ap counted round ∙ one .counted-too;
           stay = λ m among. subst (Among m) (sym (c .puts-out)) among;
         }

@@ -60,7 +60,7 @@ last-counter n p s b accepted boxes v =
             goes-on = round collecting (r .round .own) (better r e) (withBox (lasts r) q) (accepts r);
             underway = record { in-phase = refl; own-round = u .own-round };
             counted-too = refl;
-            tallied = record {
+            missing = record {
               own-value = missing .own-value;
               best-so-far = better-is-best accepted boxes r e q qs reports (missing .best-so-far);
             };
@@ -112,7 +112,7 @@ accept-counter n p s b v =
             goes-on = round begun (r .round .own) (r .round .best) (lasts r) (withBox (accepts r) q);
             underway = record { in-phase = refl; own-round = u .own-round };
             counted-too = refl;
-            tallied = missing;
+            missing = missing;
             becomes = simp (due, few);
           };
       counts-last = λ r q second value u own new enough reports missing.

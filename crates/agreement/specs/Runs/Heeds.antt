@@ -30,10 +30,10 @@ success-agrees : (h : Head) (r : Room) (e : Event) → e .kind ≡ success → a
 unfolding onSlot onSuccess
 success-agrees h r e kind none = simp (kind, none)
 
-pub success-is-heard :
+pub success-is-heeded :
     (n : ℕ) → 1 ≤ n → n ≤ maxBoxes → (w : World) (i : ℕ) (e : Event) → Run step n (start n) w → i < n → Delivered w i e → e .kind ≡ success →
     says w i (e .slot .0) ≡ 0 → says (after step w i e) i (e .slot .0) ≡ e .value
-success-is-heard n some few w i e run box delivered kind none =
+success-is-heeded n some few w i e run box delivered kind none =
     let kept = reachable-kept n w some few run in
     let reaches =
     reaches-slot n i (w .tables i) e (kept .boxes-kept i box) (delivered-ok n w i e kept delivered) (λ other. omega arith) in

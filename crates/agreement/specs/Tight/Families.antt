@@ -247,8 +247,8 @@ pub unheeded-success-breaks : (f : StepFunction) → Unheeded f success → ¬ P
 unheeded-success-breaks f ignores promises =
     let done = finishes-alone f promises in
     let e = event success 0 0 0 0 (says (done .end) 0 0) in
-    let heard =
-    promises .success-is-heard 1 (forgotten f promises) 0 e one-box
+    let heeded =
+    promises .success-is-heeded 1 (forgotten f promises) 0 e one-box
     (_and-then_ (ended-run f promises) (record { a-box = lit< tt; source = inl (inr refl) })) (lit< tt)
     (record {
       message = parcel allBoxes e;
@@ -257,4 +257,4 @@ unheeded-success-breaks f ignores promises =
       addressed = inr refl;
     })
     refl (forgets f promises) in
-    done .agreed (sym heard ∙ ignores (forgotten f promises .tables 0) e 0 refl ∙ forgets f promises)
+    done .agreed (sym heeded ∙ ignores (forgotten f promises .tables 0) e 0 refl ∙ forgets f promises)
