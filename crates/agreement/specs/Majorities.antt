@@ -6,7 +6,7 @@ use Rattle.std.proofs.Math.Path.{subst⁻¹}
 use Rattle.std.proofs.Math.Decide.{ℕ_discrete}
 use Rattle.ballots.specs.Boxes.{holds_box, is_majority, with_box}
 use Rattle.ballots.specs.BoxesLaws.{with_box_others}
-use Rattle.ballots.specs.MajorityLaws.{majorities_meet}
+use Rattle.ballots.proofs.MajorityLaws.{majorities_meet}
 use Rattle.consensus.specs.declared.Head.{Head}
 use Rattle.consensus.specs.Enough.{enough_to_collect, enough_to_begin}
 

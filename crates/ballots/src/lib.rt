@@ -1,5 +1,7 @@
 // Ballots and slots: what is a ballot for N boxes, its two parts, and the next ballot of a box. The sets of boxes are in `boxes`.
 // Relies on specs/Ballot.antt, which says what each function gives. Every crate above cites it.
+#![tactic(auto)]
+
 ghost use Rattle.std.specs.Prelude.{◌≡◌};
 ghost use Rattle.ballots.specs.Ballot.{x_of, maker_of, is_ballot, next};
 
@@ -11,15 +13,15 @@ pub const MAX_BOXES: u64 = 7;
 const MAX_X: u64 = 4294967295;
 
 // A ballot number. A tuple struct of its own, so that no slot number passes for one.
-#[derive(Drop)]
+#[derive(Clone, Copy)]
 pub struct Ballot(pub u64);
 
 // A slot number.
-#[derive(Drop)]
+#[derive(Clone, Copy)]
 pub struct Slot(pub u64);
 
 // What making the next ballot gives: the ballot, or that no x is left or the index is no box's.
-#[derive(Drop)]
+#[derive(Clone, Copy)]
 pub enum Next {
     Made(Ballot),
     NoneLeft,

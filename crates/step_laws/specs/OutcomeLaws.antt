@@ -3,7 +3,7 @@
 use Rattle.std.specs.Prelude.{ℕ, ◌^◌, ◌≤◌, ◌<◌, ◌≡◌, refl, true, false, ◌≢◌}
 use Rattle.std.proofs.Common.{subst, le_trans, arith, pow_pos}
 use Rattle.ballots.specs.BallotLaws.{zero_none_or_ballot}
-use Rattle.ballots.specs.MajorityLaws.{none_is_no_majority}
+use Rattle.ballots.proofs.MajorityLaws.{none_is_no_majority}
 use Rattle.consensus.specs.declared.Head.{Head}
 use Rattle.consensus.specs.declared.Vote.{Vote}
 use Rattle.consensus.specs.declared.Saved.{Saved}

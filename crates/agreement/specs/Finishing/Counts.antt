@@ -6,7 +6,7 @@ use Rattle.std.specs.Int.Count.{ones}
 use Rattle.ballots.specs.Ballot.{max_boxes}
 use Rattle.ballots.specs.Boxes.{holds_box, is_majority, with_box, smallest_majority}
 use Rattle.ballots.specs.BoxesLaws.{with_box_count, with_box_others}
-use Rattle.ballots.specs.MajorityLaws.{enough_is_majority, fewer_is_no_majority}
+use Rattle.ballots.proofs.MajorityLaws.{enough_is_majority, fewer_is_no_majority}
 use Rattle.consensus.specs.declared.Saved.{Saved}
 use Rattle.consensus.specs.declared.Round.{Round}
 use Rattle.consensus.specs.declared.Room.{Room}

@@ -8,7 +8,7 @@ use Rattle.std.proofs.Math.Dec.{eqb}
 use Rattle.ballots.specs.Ballot.{max_boxes, max_x, next_x}
 use Rattle.ballots.specs.Boxes.{with_box, smallest_majority}
 use Rattle.ballots.specs.BoxesLaws.{with_box_below}
-use Rattle.ballots.specs.MajorityLaws.{fewer_is_no_majority}
+use Rattle.ballots.proofs.MajorityLaws.{fewer_is_no_majority}
 use Rattle.consensus.specs.declared.Head.{Head}
 use Rattle.consensus.specs.declared.Room.{Room}
 use Rattle.consensus.specs.declared.Event.{Event}
