@@ -1,5 +1,7 @@
 // The step of a box: a lent table and one event give the new table and an answer with at most one message.
 // Relies on specs/, which says what each type and each answer means; a ballot and a slot are types of their own.
+#![tactic(auto)]
+
 ghost use Rattle.std.specs.Prelude.{◌≡◌, ◌<◌, ◌≤◌, length};
 ghost use Rattle.ballots.specs.Ballot.{max_boxes};
 ghost use Rattle.consensus.specs.Layout.{slots, table_size, head_of};
@@ -24,28 +26,28 @@ pub const SLOTS: u64 = layout::SLOTS;
 pub const TABLE_SIZE: usize = layout::TABLE_SIZE;
 
 // Numbers 0 and 1 of a table: the box count N and the box's own index.
-#[derive(Drop)]
+#[derive(Clone, Copy)]
 pub struct Head {
     pub boxes: u64,
     pub index: u64,
 }
 
 // A ballot and the value that goes with it; both zero where there is none.
-#[derive(Drop)]
+#[derive(Clone, Copy)]
 pub struct Vote {
     pub ballot: Ballot,
     pub value: u64,
 }
 
 // Numbers 0 to 2 of a slot, which a restart keeps.
-#[derive(Drop)]
+#[derive(Clone, Copy)]
 pub struct Saved {
     pub promised: Ballot,
     pub accepted: Vote,
 }
 
 // Numbers 3 to 9 of a slot: the round that this box runs.
-#[derive(Drop)]
+#[derive(Clone, Copy)]
 pub struct Round {
     pub phase: u64,
     pub own: Vote,
@@ -55,7 +57,7 @@ pub struct Round {
 }
 
 // The eleven numbers of a slot.
-#[derive(Drop)]
+#[derive(Clone, Copy)]
 pub struct Room {
     pub saved: Saved,
     pub round: Round,
@@ -63,7 +65,7 @@ pub struct Room {
 }
 
 // The six numbers of an event, and of a message on its way.
-#[derive(Drop)]
+#[derive(Clone, Copy)]
 pub struct Event {
     pub kind: u64,
     pub slot: Slot,
@@ -74,14 +76,14 @@ pub struct Event {
 }
 
 // A message out: a destination (an index, or 7 for all boxes) and six numbers.
-#[derive(Drop)]
+#[derive(Clone, Copy)]
 pub struct Message {
     pub to: u64,
     pub event: Event,
 }
 
 // What a step answers; `numbers_of` gives the rules' number and the message's seven for each case.
-#[derive(Drop)]
+#[derive(Clone, Copy)]
 pub enum Answer {
     Quiet,
     Sends(Message),
@@ -95,7 +97,7 @@ pub enum Answer {
 }
 
 // What an event does to its slot: new numbers and an answer, or a refusal that leaves all as it was.
-#[derive(Drop)]
+#[derive(Clone, Copy)]
 pub enum Outcome {
     Becomes(Room, Answer),
     Refused(Answer),
