@@ -37,6 +37,7 @@ const USED: [[u8; 5]; 8] = [
 ];
 
 // A field that holds x keeps its rule if its kind uses it, and is zero if not.
+#[tactic(auto, unfolding(crate::specs::Events::field_ok))]
 fn field_ok(kind: usize, field: usize, x: u64, rule: bool) -> bool
     requires { (1 ≤ kind) × (kind ≤ 8) × (field < 5) }
     ensures { result ≡ field_ok kind field x rule }
@@ -46,6 +47,7 @@ fn field_ok(kind: usize, field: usize, x: u64, rule: bool) -> bool
 }
 
 // In Last, second is zero or a ballot, at most ballot; in OldRound a ballot above ballot.
+#[tactic(auto, unfolding(crate::specs::Events::second_ok))]
 fn second_ok(boxes: u64, event: Event) -> bool
     ensures { result ≡ second_ok boxes event }
 {
@@ -59,6 +61,7 @@ fn second_ok(boxes: u64, event: Event) -> bool
 }
 
 // A value is not zero; in Last it is zero exactly if second is.
+#[tactic(auto, unfolding(crate::specs::Events::value_ok))]
 fn value_ok(event: Event) -> bool
     ensures { result ≡ value_ok event }
 {
@@ -71,6 +74,7 @@ fn value_ok(event: Event) -> bool
 }
 
 // In Collect and Begin, from made the ballot.
+#[tactic(auto, unfolding(crate::specs::Events::maker_ok))]
 fn maker_ok(event: Event) -> bool
     ensures { result ≡ maker_ok event }
 {
@@ -83,6 +87,7 @@ fn maker_ok(event: Event) -> bool
 }
 
 // The fields of an event of a kind that exists keep their rules.
+#[tactic(auto, unfolding(crate::specs::Events::fields_ok))]
 fn fields_ok(boxes: u64, event: Event) -> bool
     requires { (1 ≤ event.kind) × (event.kind ≤ 8) }
     ensures { result ≡ fields_ok boxes event }
@@ -99,6 +104,7 @@ fn fields_ok(boxes: u64, event: Event) -> bool
 }
 
 // An event keeps the rules for this many boxes.
+#[tactic(auto, unfolding(crate::specs::Events::event_ok, crate::specs::Events::kind_ok))]
 pub fn event_ok(boxes: u64, event: Event) -> bool
     ensures { result ≡ event_ok boxes event }
 {

@@ -17,6 +17,7 @@ pub const COLLECTING: u64 = 1;
 pub const BEGUN: u64 = 2;
 
 // Whether the boxes that sent Last are enough to close a Collect.
+#[tactic(auto, unfolding(crate::specs::Enough::enough_to_collect))]
 pub fn enough_to_collect(head: Head, set: u64) -> bool
     ensures { result ≡ enough_to_collect head set }
 {
@@ -24,6 +25,7 @@ pub fn enough_to_collect(head: Head, set: u64) -> bool
 }
 
 // Whether the boxes that sent Accept are enough to close a Begin.
+#[tactic(auto, unfolding(crate::specs::Enough::enough_to_begin))]
 pub fn enough_to_begin(head: Head, set: u64) -> bool
     ensures { result ≡ enough_to_begin head set }
 {
@@ -31,6 +33,7 @@ pub fn enough_to_begin(head: Head, set: u64) -> bool
 }
 
 // Zero or a ballot.
+#[tactic(auto, unfolding(ballots::specs::Ballot::none_or_ballot))]
 pub fn none_or_ballot(boxes: u64, b: Ballot) -> bool
     ensures { result ≡ none_or_ballot boxes b.0 }
 {
@@ -56,6 +59,7 @@ fn set_ok(head: Head, set: u64) -> bool
 }
 
 // Numbers 0 to 2 keep their rules.
+#[tactic(auto, unfolding(crate::specs::WellKept::saved_kept))]
 pub fn saved_kept(head: Head, room: Room) -> bool
     ensures { result ≡ saved_kept head room }
 {
@@ -70,6 +74,7 @@ pub fn saved_kept(head: Head, room: Room) -> bool
 }
 
 // Own and best ballot, the two sets and the phase are in range.
+#[tactic(auto, unfolding(crate::specs::WellKept::round_kept))]
 fn round_kept(head: Head, room: Room) -> bool
     ensures { result ≡ round_kept head room }
 {
@@ -86,6 +91,7 @@ fn round_kept(head: Head, room: Room) -> bool
 }
 
 // Idle: numbers 4 to 9 are zero.
+#[tactic(auto, unfolding(crate::specs::WellKept::idle_kept))]
 fn idle_kept(room: Room) -> bool
     ensures { result ≡ idle_kept room }
 {
@@ -103,6 +109,7 @@ fn idle_kept(room: Room) -> bool
 }
 
 // Collecting or begun: a ballot of this box's own, a value, nothing agreed.
+#[tactic(auto, unfolding(crate::specs::WellKept::running_kept))]
 fn running_kept(head: Head, room: Room) -> bool
     ensures { result ≡ running_kept head room }
 {
@@ -119,6 +126,7 @@ fn running_kept(head: Head, room: Room) -> bool
 }
 
 // Collecting: the best report is no higher than the own ballot, and the Lasts are not enough yet.
+#[tactic(auto, unfolding(crate::specs::WellKept::collecting_kept))]
 fn collecting_kept(head: Head, room: Room) -> bool
     ensures { result ≡ collecting_kept head room }
 {
@@ -134,6 +142,7 @@ fn collecting_kept(head: Head, room: Room) -> bool
 }
 
 // Begun: nothing is left of the Collect, and the Accepts are not enough yet.
+#[tactic(auto, unfolding(crate::specs::WellKept::begun_kept))]
 fn begun_kept(head: Head, room: Room) -> bool
     ensures { result ≡ begun_kept head room }
 {
@@ -144,6 +153,7 @@ fn begun_kept(head: Head, room: Room) -> bool
 }
 
 // What a slot's phase asks of its numbers.
+#[tactic(auto, unfolding(crate::specs::WellKept::phase_kept))]
 fn phase_kept(head: Head, room: Room) -> bool
     ensures { result ≡ phase_kept head room }
 {
@@ -158,6 +168,7 @@ fn phase_kept(head: Head, room: Room) -> bool
 }
 
 // A slot is well kept.
+#[tactic(auto, unfolding(crate::specs::WellKept::well_kept))]
 pub fn well_kept(head: Head, room: Room) -> bool
     ensures { result ≡ well_kept head room }
 {
