@@ -101,7 +101,7 @@ fn end_byte(left: usize) -> u8
 }
 
 // The digits from `from` on, after those that make `first`.
-#[tactic(auto, using(crate::proofs::Digits::digits_end, crate::proofs::Digits::digits_stop, crate::proofs::Digits::digits_over, crate::proofs::Digits::digits_next, crate::specs::DigitLaws::below_digits, crate::specs::DigitLaws::above_digits))]
+#[tactic(auto, using(crate::proofs::Sets::more_digits))]
 fn more_digits(line: &[u8], from: usize, first: u64) -> Number
     ensures { number_placed line.now result ≡ more_digits first (drop from line.now) }
 {
@@ -130,7 +130,7 @@ fn more_digits(line: &[u8], from: usize, first: u64) -> Number
 }
 
 // The number at a place of a line.
-#[tactic(auto, using(crate::proofs::Digits::number_end, crate::proofs::Digits::number_other, crate::proofs::Digits::number_zero, crate::proofs::Digits::number_more, crate::specs::DigitLaws::below_digits, crate::specs::DigitLaws::above_digits))]
+#[tactic(auto, using(crate::proofs::Sets::number_at))]
 fn number_at(line: &[u8], at: usize) -> Number
     ensures { number_placed line.now result ≡ read_number (drop at line.now) }
 {
@@ -151,7 +151,7 @@ fn number_at(line: &[u8], at: usize) -> Number
 }
 
 // The numbers of a whole line, as many as `numbers` holds, or false.
-#[tactic(auto, using(crate::proofs::Numbers::bad_number, crate::proofs::Numbers::no_end, crate::proofs::Numbers::other_end, crate::proofs::Numbers::number_read, crate::proofs::Numbers::all_read))]
+#[tactic(auto, using(crate::proofs::Sets::read_numbers))]
 fn read_numbers(line: &[u8], numbers: &mut [u64]) -> bool
     ensures { numbers_placed result numbers.new ≡ read_numbers (length numbers.old) line.now }
 {
@@ -175,7 +175,7 @@ fn read_numbers(line: &[u8], numbers: &mut [u64]) -> bool
 }
 
 // The count of digits of a number.
-#[tactic(auto, using(crate::specs::TextLaws::number_within, crate::specs::TextLaws::one_digit_wide, crate::specs::TextLaws::last_digit_wider))]
+#[tactic(auto, using(crate::proofs::Sets::width))]
 fn width(n: u64) -> usize
     ensures { result ≡ length (number_text n) }
 {
@@ -189,7 +189,7 @@ fn width(n: u64) -> usize
 }
 
 // What writing a line of numbers gives: the buffer's room is counted down, so that no sum can overflow.
-#[tactic(auto, using(crate::proofs::Fields::length_from, crate::proofs::Fields::line_done))]
+#[tactic(auto, using(crate::proofs::Sets::measure))]
 fn measure(numbers: &[u64], out: &[u8]) -> Written
     ensures { result ≡ written_record numbers.now out.now }
 {
@@ -221,7 +221,7 @@ fn digit(d: u64) -> u8
 }
 
 // Puts a number's text at a place of the buffer, and gives the place after it.
-#[tactic(auto, using(crate::specs::TextLaws::one_digit_wide, crate::specs::TextLaws::last_digit_wider, crate::proofs::Puts::put_one_digit, crate::proofs::Puts::put_last_digit))]
+#[tactic(auto, using(crate::proofs::Sets::put_number))]
 fn put_number(out: &mut [u8], at: usize, n: u64) -> usize
     requires { at + length (number_text n) ≤ length out.old }
     ensures place { result ≡ at + length (number_text n) }
@@ -237,7 +237,7 @@ fn put_number(out: &mut [u8], at: usize, n: u64) -> usize
 }
 
 // Puts a line of numbers at the front of the buffer.
-#[tactic(auto, using(crate::proofs::Fields::length_from, crate::proofs::Fields::put_field, crate::proofs::Fields::put_all))]
+#[tactic(auto, using(crate::proofs::Sets::put_line))]
 fn put_line(numbers: &[u64], out: &mut [u8])
     requires { length (line_text numbers.now) ≤ length out.old }
     ensures { out.new ≡ line_text numbers.now ++ drop (length (line_text numbers.now)) out.old }
