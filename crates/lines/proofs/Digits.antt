@@ -1,13 +1,6 @@
 -- How reading digits goes on or stops at the byte at a place of a line.
 -- Relies on Read and DigitLaws. Cited by the proofs of more_digits and number_at.
-use Prim.Native.Nat.{ℕ, ◌+◌, ◌<◌, ◌≤◌}
-use mathlib.Core.Path.{◌≡◌}
-use mathlib.Core.List.{List}
-use mathlib.Core.Bool.{false}
-use native.Mathlib.Numerals.{add-one}
-use lib.ListN.{length, drop, get_or, drop_of_length-le}
-use lib.Seq.{drop-cons}
-use borrow.Author.Tests.{lt-ltb, le-ltb, eq-eqb, ne_eqb}
+use Rattle.std.proofs.Common.{ℕ, ◌+◌, ◌<◌, ◌≤◌, ◌≡◌, List, false, add-one, length, drop, get_or, drop_of_length-le, drop-cons, lt-ltb, le-ltb, eq-eqb, ne_eqb}
 use Rattle.lines.specs.Text.{digit, limit}
 use Rattle.lines.specs.DigitLaws.{among_digits}
 use Rattle.lines.specs.Read.{a_number, no_number, is_digit, with_digit, more_digits, read_number}

@@ -1,12 +1,6 @@
 -- How the text of a line goes on with the number at i, and what a buffer holds once i numbers are put.
--- Relies on Text, Places and Puts. Cited by the proofs of line_length and put_line.
-use Prim.Native.Nat.{ℕ, ◌+◌, ◌-◌, ◌<◌, ◌≤◌}
-use mathlib.Core.Path.{◌≡◌, refl, ap, sym, ◌∙◌}
-use mathlib.Core.List.{List, [], ◌∷◌, ◌++◌, append_assoc, append-nil}
-use native.Mathlib.Numerals.{add-one}
-use native.Mathlib.Omega.{arith}
-use lib.ListN.{length, take, drop, get_or, set, length-append, length-take, length-drop, drop_of_length-le, take-append-drop}
-use lib.Seq.{drop-cons, take_at, drop_at, drop-drop}
+-- Relies on Text, Places and Puts. Cited by the proofs of measure and put_line.
+use Rattle.std.proofs.Common.{ℕ, ◌+◌, ◌-◌, ◌<◌, ◌≤◌, ◌≡◌, refl, ap, sym, ◌∙◌, List, [], ◌∷◌, ◌++◌, append_assoc, append-nil, add-one, arith, length, take, drop, get_or, set, length-append, length-take, length-drop, drop_of_length-le, take-append-drop, drop-cons, take_at, drop_at, drop-drop}
 use Rattle.lines.specs.Text.{number_text, line_text, end_byte}
 use Rattle.lines.specs.Places.{text_at}
 use Rattle.lines.proofs.Puts.{put_length, put_next}

@@ -1,16 +1,7 @@
 -- How reading a line's numbers goes on or stops after the number at a place, with the numbers read so far.
 -- Relies on Read and Places. Cited by the proof of read_numbers.
-use Prim.Native.Nat.{ℕ, suc, ◌+◌, ◌-◌, ◌<◌, ◌≤◌}
-use mathlib.Core.Path.{◌≡◌, refl, ap, sym, ◌∙◌}
-use mathlib.Core.List.{List, [], ◌++◌, append_assoc, append-nil}
-use mathlib.Core.Bool.{Bool, true, false}
-use native.Mathlib.Nat.{sub-zero}
-use native.Mathlib.Numerals.{add-one}
-use native.Mathlib.Omega.{arith}
-use lib.ListN.{length, take, drop, get_or, set, length-set, drop_of_length-le}
-use lib.Seq.{drop-cons, take-suc-set, take_all}
-use lib.Dec.{leb}
-use borrow.Author.Tests.{eq-eqb, ne_eqb, leb-true, leb-false}
+use Rattle.std.proofs.Common.{ℕ, suc, ◌+◌, ◌-◌, ◌<◌, ◌≤◌, ◌≡◌, refl, ap, sym, ◌∙◌, List, [], ◌++◌, append_assoc, append-nil, Bool, true, false, add-one, arith, length, take, drop, get_or, set, length-set, drop_of_length-le, drop-cons, take-suc-set, take_all, leb, eq-eqb, ne_eqb, leb-true, leb-false}
+use Rattle.std.proofs.Math.Nat.{sub-zero}
 use Rattle.lines.specs.declared.Number.{Number}
 use Rattle.lines.specs.declared.Number.TheVariants.{Whole, Bad}
 use Rattle.lines.specs.Text.{end_byte}

@@ -1,12 +1,8 @@
 -- How a buffer with a text at a place grows by a byte.
 -- Relies on Places. Cited by the proofs of put_number and put_line.
-use Prim.Native.Nat.{ℕ, suc, ◌+◌, ◌/◌, ◌%◌, ◌<◌, ◌≤◌}
-use mathlib.Core.Path.{◌≡◌, ap, ◌∙◌}
-use mathlib.Core.List.{List, [], ◌∷◌, ◌++◌, append_assoc}
-use native.Mathlib.Numerals.{add-one}
-use native.Mathlib.Omega.{arith}
-use lib.ListN.{length, take, set, length-append, length-take, length-drop}
-use lib.Seq.{drop-cons, set_at, set_split, append_snoc}
+use Rattle.std.proofs.Common.{ℕ, suc, ◌+◌, ◌/◌, ◌%◌, ◌<◌, ◌≤◌, ◌≡◌, ap, ◌∙◌, List, [], ◌∷◌, ◌++◌, append_assoc, add-one, arith, length, take, set, length-append, length-take, length-drop, drop-cons}
+use Rattle.std.proofs.lemmas.List.{set_at, set_split}
+use Rattle.std.proofs.Math.Seq.{append_snoc}
 use Rattle.lines.specs.Text.{digit, limit, number_text}
 use Rattle.lines.specs.TextLaws.{one_digit, last_digit_last, last_digit_wider}
 use Rattle.lines.specs.Places.{text_at}

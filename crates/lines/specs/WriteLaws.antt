@@ -1,5 +1,5 @@
 -- What the answer of a write tells of the buffer: 0 where it holds the line, 9 where it does not.
--- Relies on Write. Cited by the proof of write_numbers, and for whoever writes lines.
+-- Relies on Write. For whoever writes lines.
 use Rattle.std.specs.Prelude.{ℕ, ◌≤◌, ◌≡◌, refl, List, Bool, true, false, cond, length}
 use Rattle.std.proofs.Common.{ap, arith, ltb-false}
 use Rattle.lines.specs.declared.Written.{Written}

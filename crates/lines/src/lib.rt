@@ -1,6 +1,9 @@
 // Lines of text: a record of seven decimal numbers is read from one line and written as one line, and so are
 // numbers of any count. Relies on specs/Text, specs/Read and specs/Write, which the contracts cite. Only
 // read_record and write_record know that a record is seven numbers.
+
+#![tactic(auto)]
+
 ghost use Rattle.std.specs.Prelude.{◌≡◌, ◌++◌, ◌+◌, ◌<◌, ◌≤◌, length, drop};
 ghost use Rattle.lines.specs.Text.{digit, number_text, line_text, end_byte};
 ghost use Rattle.lines.specs.Read.{more_digits, read_number, read_numbers, read_record};
@@ -26,20 +29,21 @@ const LARGEST: u64 = 18446744073709551615;
 const LARGEST_TENS: u64 = 1844674407370955161;
 
 // What reading a line gives: answer 0 and its numbers, or answer 8 and seven zeros.
-#[derive(Drop)]
+#[derive(Clone, Copy)]
 pub struct Reading {
     pub answer: u64,
     pub numbers: [u64; 7],
 }
 
 // What writing a line gives: answer 0 and the line's length, or answer 9 and 0.
-#[derive(Drop)]
+#[derive(Clone, Copy)]
 pub struct Written {
     pub answer: u64,
     pub length: usize,
 }
 
 // Reads a record: one whole line.
+#[tactic(auto, unfolding(crate::specs::Read::read_record))]
 pub fn read_record(line: &[u8]) -> Reading
     ensures { result ≡ read_record line.now }
 {
@@ -76,7 +80,7 @@ pub fn write_numbers(numbers: &[u64], out: &mut [u8]) -> Written
 }
 
 // What stands at a place of a line: a number and the place after it, or no number.
-#[derive(Drop)]
+#[derive(Clone, Copy)]
 enum Number {
     Whole(u64, usize),
     Bad,
@@ -97,6 +101,7 @@ fn end_byte(left: usize) -> u8
 }
 
 // The digits from `from` on, after those that make `first`.
+#[tactic(auto, using(crate::proofs::Sets::more_digits))]
 fn more_digits(line: &[u8], from: usize, first: u64) -> Number
     ensures { number_placed line.now result ≡ more_digits first (drop from line.now) }
 {
@@ -125,6 +130,7 @@ fn more_digits(line: &[u8], from: usize, first: u64) -> Number
 }
 
 // The number at a place of a line.
+#[tactic(auto, using(crate::proofs::Sets::number_at))]
 fn number_at(line: &[u8], at: usize) -> Number
     ensures { number_placed line.now result ≡ read_number (drop at line.now) }
 {
@@ -145,6 +151,7 @@ fn number_at(line: &[u8], at: usize) -> Number
 }
 
 // The numbers of a whole line, as many as `numbers` holds, or false.
+#[tactic(auto, using(crate::proofs::Sets::read_numbers))]
 fn read_numbers(line: &[u8], numbers: &mut [u64]) -> bool
     ensures { numbers_placed result numbers.new ≡ read_numbers (length numbers.old) line.now }
 {
@@ -168,6 +175,7 @@ fn read_numbers(line: &[u8], numbers: &mut [u64]) -> bool
 }
 
 // The count of digits of a number.
+#[tactic(auto, using(crate::proofs::Sets::width))]
 fn width(n: u64) -> usize
     ensures { result ≡ length (number_text n) }
 {
@@ -181,6 +189,7 @@ fn width(n: u64) -> usize
 }
 
 // What writing a line of numbers gives: the buffer's room is counted down, so that no sum can overflow.
+#[tactic(auto, using(crate::proofs::Sets::measure))]
 fn measure(numbers: &[u64], out: &[u8]) -> Written
     ensures { result ≡ written_record numbers.now out.now }
 {
@@ -212,6 +221,7 @@ fn digit(d: u64) -> u8
 }
 
 // Puts a number's text at a place of the buffer, and gives the place after it.
+#[tactic(auto, using(crate::proofs::Sets::put_number))]
 fn put_number(out: &mut [u8], at: usize, n: u64) -> usize
     requires { at + length (number_text n) ≤ length out.old }
     ensures place { result ≡ at + length (number_text n) }
@@ -227,6 +237,7 @@ fn put_number(out: &mut [u8], at: usize, n: u64) -> usize
 }
 
 // Puts a line of numbers at the front of the buffer.
+#[tactic(auto, using(crate::proofs::Sets::put_line))]
 fn put_line(numbers: &[u64], out: &mut [u8])
     requires { length (line_text numbers.now) ≤ length out.old }
     ensures { out.new ≡ line_text numbers.now ++ drop (length (line_text numbers.now)) out.old }
