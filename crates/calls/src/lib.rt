@@ -1,5 +1,7 @@
 // What one line of a replay does: the header names the boxes, a record is one step at one box's table, and the answer
 // is written as a line. Relies on specs/, which says what each function gives; nothing here knows how a step goes.
+#![tactic(auto)]
+
 ghost use Rattle.std.specs.Prelude.{◌≡◌, [], ◌∷◌, ◌*◌, ◌<◌, ◌≤◌, length};
 ghost use Rattle.lines.specs.Write.{written_record, written_buffer};
 ghost use Rattle.consensus.specs.Layout.{table_size, fresh};
@@ -30,7 +32,7 @@ const NEWLINE: u8 = b'\n';
 const HEADER_LENGTH: usize = 8;
 
 // What a call gives: answer 0 and the length of the line that it wrote, or the refusal's number and 0.
-#[derive(Drop)]
+#[derive(Clone, Copy)]
 pub struct Called {
     pub answer: u64,
     pub length: usize,
