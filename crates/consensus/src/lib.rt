@@ -104,6 +104,7 @@ pub enum Outcome {
 }
 
 // A table of the right length, with a box count from 1 to 7 and an index below it.
+#[tactic(auto, unfolding(crate::specs::Step::table_ok))]
 pub fn table_ok(table: &[u64]) -> bool
     ensures { result ≡ table_ok table.now }
 {
@@ -115,6 +116,7 @@ pub fn table_ok(table: &[u64]) -> bool
 }
 
 // What a slot has agreed: zero for nothing, and where the table is bad or has no such slot.
+#[tactic(auto, using(crate::specs::StepLaws::table_clauses), unfolding(crate::specs::Step::agreed_at))]
 pub fn agreed_at(table: &[u64], slot: Slot) -> u64
     ensures { result ≡ agreed_at table.now slot.0 }
 {

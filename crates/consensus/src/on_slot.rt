@@ -26,6 +26,7 @@ mod propose;
 mod success;
 
 // An event of any kind that names a slot.
+#[tactic(auto, unfolding(crate::specs::OnSlot::on_slot))]
 pub fn on_slot(head: Head, room: Room, event: Event) -> Outcome
     requires { head.index < max_boxes }
     ensures { result ≡ on_slot head room event }

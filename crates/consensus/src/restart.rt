@@ -39,6 +39,7 @@ fn restart_slots(table: &mut [u64])
 }
 
 // Restart: refused, with nothing written, where a slot's saved numbers break their rules.
+#[tactic(auto, unfolding(crate::specs::Step::on_restart))]
 pub fn on_restart(table: &mut [u64]) -> Answer
     requires { length table.old ≡ table_size }
     ensures answer { result ≡ (on_restart table.old).answer }

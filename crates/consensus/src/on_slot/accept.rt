@@ -60,6 +60,7 @@ fn agrees(head: Head, room: Room, event: Event) -> Outcome
     )
 }
 
+#[tactic(auto, unfolding(crate::specs::OnSlot::on_accept))]
 pub fn on_accept(head: Head, room: Room, event: Event) -> Outcome
     ensures { result ≡ on_accept head room event }
 {

@@ -8,6 +8,7 @@ use crate::events::ACCEPT;
 use crate::{Event, Head, Outcome, Room, Saved, Vote};
 use ballots::Ballot;
 
+#[tactic(auto, unfolding(crate::specs::OnSlot::on_begin))]
 pub fn on_begin(head: Head, room: Room, event: Event) -> Outcome
     ensures { result ≡ on_begin head room event }
 {

@@ -7,6 +7,7 @@ use super::message::{send, too_old};
 use crate::events::LAST;
 use crate::{Event, Head, Outcome, Room, Saved};
 
+#[tactic(auto, unfolding(crate::specs::OnSlot::on_collect))]
 pub fn on_collect(head: Head, room: Room, event: Event) -> Outcome
     ensures { result ≡ on_collect head room event }
 {

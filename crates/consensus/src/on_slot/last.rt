@@ -91,6 +91,7 @@ fn begins(head: Head, room: Room, event: Event, value: u64) -> Outcome
     )
 }
 
+#[tactic(auto, unfolding(crate::specs::OnSlot::on_last))]
 pub fn on_last(head: Head, room: Room, event: Event) -> Outcome
     ensures { result ≡ on_last head room event }
 {

@@ -16,6 +16,7 @@ fn larger(a: Ballot, b: Ballot) -> Ballot
     if a.0 < b.0 { b } else { a }
 }
 
+#[tactic(auto, unfolding(crate::specs::OnSlot::on_old_round))]
 pub fn on_old_round(head: Head, room: Room, event: Event) -> Outcome
     ensures { result ≡ on_old_round head room event }
 {

@@ -11,6 +11,7 @@ use crate::kept::COLLECTING;
 use crate::{Answer, Event, Head, Outcome, Room, Round, Saved, Vote};
 use ballots::{Ballot, Next, next_ballot};
 
+#[tactic(auto, using(ballots::specs::BallotLaws::made_is_next, ballots::specs::BallotLaws::none_has_no_x), unfolding(crate::specs::OnSlot::on_propose))]
 pub fn on_propose(head: Head, room: Room, event: Event) -> Outcome
     requires { head.index < max_boxes }
     ensures { result ≡ on_propose head room event }

@@ -6,6 +6,7 @@ ghost use Rattle.consensus.specs.OnSlot.{on_success};
 use super::nothing::no_round;
 use crate::{Answer, Event, Head, Outcome, Room};
 
+#[tactic(auto, unfolding(crate::specs::OnSlot::on_success))]
 pub fn on_success(head: Head, room: Room, event: Event) -> Outcome
     ensures { result ≡ on_success head room event }
 {
