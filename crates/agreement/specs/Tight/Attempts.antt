@@ -43,6 +43,7 @@ module _ (s b k q : ℕ) (e : Event) where
 
   carried_is : (ms : List Message) (m : Message) → all_carry ms ≡ true → Among m ms → fits m.event ≡ true → m.event ≡ e
   unfolding all_carry
+  carried_is [] m all among = elim among [ ]
   carried_is (x ∷ ms) m all (inl same) =
       fitting_is m.event (subst (λ (y : Message). carries y.event ≡ true) (sym same) ((and-eq-true_iff (carries x.event) (all_carry ms)).0 all).0)
   carried_is (x ∷ ms) m all (inr among) = carried_is ms m ((and-eq-true_iff (carries x.event) (all_carry ms)).0 all).1 among
