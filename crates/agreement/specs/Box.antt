@@ -19,14 +19,6 @@ use Rattle.step_laws.specs.StepCases.{room_after, answer_of}
 use Rattle.agreement.specs.Ledger.{Lasting, Ledger, Said, opened, proposed, reported, begun, voted, Report, Moves, ChosenValue}
 use Rattle.agreement.specs.Ledger.Kept.{Kept}
 use Rattle.agreement.specs.Majorities.{In, CollectSet, BeginSet}
-pub mod Laws
-pub mod Propose
-pub mod Collect
-pub mod Last
-pub mod Begin
-pub mod Accept
-pub mod Success
-pub mod OnSlot
 
 -- the saved numbers of a room
 abbrev pub lasting_of : Room → Lasting

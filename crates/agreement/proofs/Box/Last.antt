@@ -25,7 +25,7 @@ use Rattle.agreement.specs.Ledger.{Ledger, Said, proposed, reported, begun, Repo
 use Rattle.agreement.specs.Ledger.Laws.{said_before}
 use Rattle.agreement.specs.Majorities.{In, CollectSet, enough_collects, counted_all}
 use Rattle.agreement.specs.Box.{CollectingTold, Situation, Told}
-use Rattle.agreement.specs.Box.Laws.{agreed_lasts, unmoved, refused, heard}
+use Rattle.agreement.proofs.Box.Laws.{agreed_lasts, unmoved, refused, heard}
 
 module _ (h : Head) (r : Room) (e : Event) (l : Ledger) (kind : e.kind ≡ last) (here : Situation h r e l) (mine : Awaited r e collecting (lasts r)) where
   abbrev counted : ℕ

@@ -20,7 +20,7 @@ use Rattle.step_laws.specs.AwaitedLaws.{Awaited, awaited_clauses, counted_are_bo
 use Rattle.agreement.specs.Ledger.{Ledger, Said, voted}
 use Rattle.agreement.specs.Majorities.{In, enough_begins, counted_all}
 use Rattle.agreement.specs.Box.{Agreed, BegunTold, Situation, Told}
-use Rattle.agreement.specs.Box.Laws.{idle_told, unmoved, refused, heard}
+use Rattle.agreement.proofs.Box.Laws.{idle_told, unmoved, refused, heard}
 
 module _ (h : Head) (r : Room) (e : Event) (l : Ledger) (kind : e.kind ≡ accept) (here : Situation h r e l) (mine : Awaited r e begunPhase (accepts r)) where
   abbrev counted : ℕ

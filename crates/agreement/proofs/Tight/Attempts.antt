@@ -15,9 +15,9 @@ use Rattle.agreement.specs.Runs.{StepFunction, World, start, Among, after, Run, 
 use Rattle.agreement.specs.Runs.Run.{still}
 use Rattle.agreement.specs.Finishing.{JustEnough, Turn, TakesTurn, Turns, proposal, MayFinish, replies}
 use Rattle.agreement.specs.Finishing.Turns.{none, next}
-use Rattle.agreement.specs.Finishing.Reaches.{same_order}
+use Rattle.agreement.proofs.Finishing.Reaches.{same_order}
 use Rattle.agreement.specs.Promises.{Promises}
-use Rattle.agreement.specs.Tight.Replays.{same_event, same_event_is_equal, Call, world_after, may_make_all, run_of, apart}
+use Rattle.agreement.proofs.Tight.Replays.{same_event, same_event_is_equal, Call, world_after, may_make_all, run_of, apart}
 
 -- ---- turns that can be made in one way
 
