@@ -10,7 +10,7 @@ use Rattle.consensus.specs.declared.Message.{Message}
 use Rattle.consensus.specs.declared.Answer.{Answer}
 use Rattle.consensus.specs.declared.Answer.TheVariants.{Quiet, Sends, BadTable, BadEvent, NotWellKept, NotAwaited, AlreadyAgreed, OtherAgreed, NoBallotLeft}
 use Rattle.consensus.specs.declared.Outcome.{Outcome}
-use Rattle.consensus.specs.Room.{promised, accepted_ballot, accepted_value, phase, agreed, collecting, begun as begunPhase}
+use Rattle.consensus.specs.Room.{promised, accepted_ballot, accepted_value, phase, agreed, collecting, begun as begun_phase}
 use Rattle.consensus.specs.Choice.{if◌then◌else◌}
 use Rattle.consensus.specs.WellKept.{well_kept}
 use Rattle.consensus.specs.Events.{propose, collect, last, begin, accept, success, event_ok}
@@ -19,14 +19,6 @@ use Rattle.step_laws.specs.StepCases.{room_after, answer_of}
 use Rattle.agreement.specs.Ledger.{Lasting, Ledger, Said, opened, proposed, reported, begun, voted, Report, Moves, ChosenValue}
 use Rattle.agreement.specs.Ledger.Kept.{Kept}
 use Rattle.agreement.specs.Majorities.{In, CollectSet, BeginSet}
-pub mod Laws
-pub mod Propose
-pub mod Collect
-pub mod Last
-pub mod Begin
-pub mod Accept
-pub mod Success
-pub mod OnSlot
 
 -- the saved numbers of a room
 abbrev pub lasting_of : Room → Lasting
@@ -54,7 +46,7 @@ pub record BegunTold (l : Ledger) (q : Round) : Type 0 where
 pub record RoomTold (n i : ℕ) (l : Ledger) (r : Room) : Type 0 where
   pub saved_lasts : l.box i ≡ lasting_of r
   pub collecting_told : phase r ≡ collecting → CollectingTold l r.round
-  pub begun_told : phase r ≡ begunPhase → BegunTold l r.round
+  pub begun_told : phase r ≡ begun_phase → BegunTold l r.round
   pub agreed_told : agreed r ≢ 0 → Agreed n l (agreed r)
 
 -- what an event of kind k says was said

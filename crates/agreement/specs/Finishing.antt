@@ -13,10 +13,6 @@ use Rattle.agreement.specs.Runs.{StepFunction, World, start, Among, MayCall, Run
 pub mod Calls
 pub mod Asks
 pub mod Counts
-pub mod Highest
-pub mod Halves
-pub mod All
-pub mod Reaches
 
 -- q is one of the boxes listed
 abbrev pub Listed : ℕ → List ℕ → Type 0

@@ -4,11 +4,8 @@ use Rattle.std.specs.Prelude.{ℕ, ◌≤◌, ◌<◌, ◌≡◌, ◌≢◌, ◌
 use Rattle.agreement.specs.Ledger.Update.{update}
 pub mod Update
 pub mod Laws
-pub mod Frames
 pub mod Kept
 pub mod KeptEntry
-pub mod Keeps
-pub mod Agrees
 
 -- ---- what is said, and what a box saves
 

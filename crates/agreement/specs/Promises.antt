@@ -1,23 +1,13 @@
--- What is promised of runs of 1 to 7 fresh boxes, over any step function, and that the step keeps it.
--- Each promise is stated on its own; each proof cites its lemma.
+-- What is promised of runs of 1 to 7 fresh boxes, over any step function. Each promise is stated on its own.
+-- That the step keeps it is `step_keeps_promises` of proofs/Promises.
 use Rattle.std.specs.Prelude.{ℕ, ◌≤◌, ◌<◌, ◌≡◌, true, ◌≢◌, ◌⊎◌}
-use Rattle.std.proofs.Common.{⊎_elim, arith}
 use Rattle.ballots.specs.Ballot.{max_boxes, x_of}
 use Rattle.consensus.specs.declared.Event.{Event}
 use Rattle.consensus.specs.Layout.{slots}
 use Rattle.consensus.specs.Events.{success, restart, event_ok}
 use Rattle.consensus.specs.Answers.{answer_number}
-use Rattle.consensus.specs.Step.{step}
 use Rattle.agreement.specs.Runs.{StepFunction, World, start, Delivered, MayCall, Run, ProposedIn, proposals_in, RestartedIn, Forgets, answer_to, after, says, has_promised}
-use Rattle.agreement.specs.Runs.Keeps.{reachable_kept, call_never_answers_3, delivered_answers}
-use Rattle.agreement.specs.Runs.Agrees
-use Rattle.agreement.specs.Runs.Stays
-use Rattle.agreement.specs.Runs.NeverSix.{never_six}
-use Rattle.agreement.specs.Runs.Low
-use Rattle.agreement.specs.Runs.Heeds
 use Rattle.agreement.specs.Finishing.{FinishesAll}
-use Rattle.agreement.specs.Finishing.All.{finishes_all}
-use Rattle.agreement.specs.Finishing.Reaches.{reaches_agreement}
 
 -- 1 to 7 boxes
 pub record Count (n : ℕ) : Type 0 where
@@ -81,22 +71,3 @@ pub record Promises (f : StepFunction) : Type 0 where
   pub promises_stay_low : PromisesStayLow f
   pub success_is_heeded : SuccessIsHeeded f
   pub restart_is_done : RestartIsDone f
-
-pub step_keeps_promises : Promises step
-step_keeps_promises =
-    record {
-      one_value = λ n w u i j s count first later. Agrees.one_value n count.some count.few w u i j s first later;
-      was_proposed = λ n w i s count run. Agrees.was_proposed n count.some count.few w run i s;
-      stays_said = λ n w u i s count first later. Stays.stays_said n count.some count.few w u i s first later;
-      never_answers = λ n w i e count run may.
-          let kept = reachable_kept n w count.some count.few run in (
-            call_never_answers_3 n w i e kept may,
-            never_six n count.some count.few w i e run may,
-            λ delivered. ⊎_elim (λ zero. omega arith) (λ past. omega arith) (delivered_answers n w i e kept may.a_box delivered),
-          );
-      finishes = finishes_all;
-      some_run_agrees = λ n p s v count. reaches_agreement n p s v count.some count.few;
-      promises_stay_low = λ n w i s count run box. Low.promises_stay_low n w i s run;
-      success_is_heeded = λ n w i e count. Heeds.success_is_heeded n count.some count.few w i e;
-      restart_is_done = λ n w i e count. Heeds.restart_is_done n count.some count.few w i e;
-    }

@@ -15,13 +15,6 @@ use Rattle.consensus.specs.Answers.{answer_number}
 use Rattle.consensus.specs.OnSlot.{all_boxes}
 use Rattle.consensus.specs.Step.{Stepped}
 pub mod Keeps
-pub mod Told
-pub mod Call
-pub mod Agrees
-pub mod Stays
-pub mod NeverSix
-pub mod Heeds
-pub mod Low
 
 -- a box's table and an event give the new table and an answer
 abbrev pub StepFunction : Type 0

@@ -1,9 +1,7 @@
 -- Tightness: no useless board keeps the promises. Families of step functions, each refuted by one theorem; and each wrong step function that
 -- the rules name or somebody thought of, refuted by its family or by a run that computes. What they are made from is the step.
--- Each statement cites its proof in the files below. For the reader: nothing cites it.
+-- That all of it holds is `none_of_the_families`, `without_a_vote` and `no_impostor` of proofs/Tight. For the reader.
 use Rattle.std.specs.Prelude.{ℕ, ◌<◌, ◌≡◌, refl, List, ◌≢◌}
-use Rattle.std.proofs.Math.Decide.{dec_lt}
-use Rattle.std.proofs.Common.{arith}
 use Rattle.ballots.specs.Boxes.{smallest_majority}
 use Rattle.consensus.specs.declared.Event.{Event}
 use Rattle.consensus.specs.declared.Message.{Message}
@@ -14,42 +12,21 @@ use Rattle.consensus.specs.Events.{success, restart}
 use Rattle.consensus.specs.Answers.{answer_number}
 use Rattle.consensus.specs.OnSlot.{on_slot}
 use Rattle.consensus.specs.Step.{on_event, step}
-use Rattle.agreement.specs.Runs.{StepFunction, World, start, Run, CalledOnly, after, says}
+use Rattle.agreement.specs.Runs.{StepFunction, start, after, says}
 use Rattle.agreement.specs.Finishing.{proposal}
 use Rattle.agreement.specs.Promises.{Count, Promises}
 use Rattle.agreement.specs.Tight.Impostors.{step_keeping, step_with, refuses_all, sends_always, leaves_table, agrees_at_propose, invents_count, next_from_own, counts_twice, answers_above, promises_at_begin, promises_at_restart, tells_largest, never_sends, ignores, keeps_own_value}
 use Rattle.agreement.specs.Tight.Tally.{takes_most_sent}
-use Rattle.agreement.specs.Tight.Families.{Uncalled, Unheeded, refusing_breaks, one_message_breaks, same_table_breaks, saying_at_once_breaks, no_value_without_a_vote, no_success_breaks, refusing_restart_breaks, unheeded_restart_breaks, unheeded_success_breaks}
-use Rattle.agreement.specs.Tight.Instances.{refuses_all_breaks, sends_always_breaks, leaves_table_breaks, agrees_at_propose_breaks, never_sends_success_breaks, ignores_success_breaks, ignores_restart_breaks}
-use Rattle.agreement.specs.Tight.Votes.{next_from_own_breaks, counts_twice_breaks, takes_most_sent_breaks}
-use Rattle.agreement.specs.Tight.Raises.{promises_at_begin_breaks, promises_at_restart_breaks, tells_largest_breaks}
-use Rattle.agreement.specs.Tight.Rounds.{answers_above_breaks, keeps_own_value_breaks}
-use Rattle.agreement.specs.Tight.TooFew.{told_of_fewer_breaks}
-use Rattle.agreement.specs.Tight.TooMany.{told_of_more_breaks}
+use Rattle.agreement.specs.Tight.Families.{Unheeded}
 pub mod Impostors
 pub mod Tally
 pub mod Families
-pub mod Instances
-pub mod Replays
-pub mod Attempts
-pub mod Votes
-pub mod Raises
-pub mod Rounds
 pub mod Ways
-pub mod TooFew
-pub mod TooMany
 
 -- with the rules' own slot rule the impostors' frame is the step
 pub step_with_the_rules : (t : List ℕ) (e : Event) → step_with on_slot t e ≡ step t e
 unfolding step_keeping step on_event
 step_with_the_rules t e = refl
-
-invents_count_breaks : (count : ℕ → ℕ) (n : ℕ) → Count n → smallest_majority (count n) ≢ smallest_majority n → ¬ Promises (invents_count count)
-invents_count_breaks count n boxes another =
-    elim (dec_lt (smallest_majority (count n)) (smallest_majority n)) [
-      | yes fewer ↦ told_of_fewer_breaks count n boxes fewer
-      | no not_fewer ↦ told_of_more_breaks count n boxes (omega arith)
-    ]
 
 -- ---- every step function of a kind
 
@@ -74,26 +51,6 @@ pub record NoneOfTheFamilies : Type 0 where
   -- it refuses Restart
   pub refusing_restart : (f : StepFunction) → ((t : List ℕ) (e : Event) → e.kind ≡ restart → answer_number (f t e).answer ≢ 0) → ¬ Promises f
 
-pub none_of_the_families : NoneOfTheFamilies
-none_of_the_families =
-    record {
-      refusing = refusing_breaks;
-      one_message = one_message_breaks;
-      same_table = same_table_breaks;
-      saying_at_once = saying_at_once_breaks;
-      invents_count_fails = invents_count_breaks;
-      no_success = no_success_breaks;
-      unheeded_success = unheeded_success_breaks;
-      unheeded_restart = unheeded_restart_breaks;
-      refusing_restart = refusing_restart_breaks;
-    }
-
--- "yes without a vote": where M boxes were never called, nobody says anything
-pub without_a_vote :
-    (f : StepFunction) → Promises f → (n : ℕ) (w : World) → Count n → (run : Run f n (start n) w) (called : ℕ → Type 0) → CalledOnly called run →
-    (boxes : List ℕ) → Uncalled n called boxes → (i s : ℕ) → i < n → s < slots → says w i s ≡ 0
-without_a_vote = no_value_without_a_vote
-
 -- ---- single step functions
 
 pub record NoImpostor : Type 0 where
@@ -116,23 +73,3 @@ pub record NoImpostor : Type 0 where
   pub ignores_success : (a : Answer) → ¬ Promises (ignores success a)
   pub ignores_restart : (a : Answer) → ¬ Promises (ignores restart a)
   pub keeps_own_value_fails : ¬ Promises keeps_own_value
-
-pub no_impostor : NoImpostor
-no_impostor =
-    record {
-      refuses_all_fails = refuses_all_breaks;
-      sends_always_fails = sends_always_breaks;
-      leaves_table_fails = leaves_table_breaks;
-      agrees_at_propose_fails = agrees_at_propose_breaks;
-      next_from_own_fails = next_from_own_breaks;
-      counts_twice_fails = counts_twice_breaks;
-      takes_most_sent_fails = takes_most_sent_breaks;
-      answers_above_fails = answers_above_breaks;
-      promises_at_begin_fails = promises_at_begin_breaks;
-      promises_at_restart_fails = promises_at_restart_breaks;
-      tells_largest_fails = tells_largest_breaks;
-      never_sends_success = never_sends_success_breaks;
-      ignores_success = ignores_success_breaks;
-      ignores_restart = ignores_restart_breaks;
-      keeps_own_value_fails = keeps_own_value_breaks;
-    }

@@ -9,7 +9,8 @@ use Rattle.consensus.specs.Layout.{slots, room_at}
 use Rattle.consensus.specs.Step.{table_ok, agreed_at, step}
 use Rattle.agreement.specs.Runs.{World, start, Run}
 use Rattle.agreement.specs.Runs.Keeps.{reachable_kept, run_keeps}
-use Rattle.agreement.specs.Promises.{Count, step_keeps_promises}
+use Rattle.agreement.specs.Promises.{Count}
+use Rattle.agreement.proofs.Promises.{step_keeps_promises}
 use Rattle.board.specs.declared.Entry.{Entry}
 use Rattle.board.specs.declared.BoardAnswer.TheVariants.{Link}
 use Rattle.board.specs.Board.{known_prefix, entry_of, board_of}

@@ -27,6 +27,7 @@ Each P [] = Unit {0}
 Each P (g ∷ gs) = P g × Each P gs
 
 each_among : (P : Fact → Type 0) (fs : List Fact) (f : Fact) → Each P fs → Among f fs → P f
+each_among P [] f each h = elim h [ ]
 each_among P (g ∷ fs) f each (inl e) = subst⁻¹ P e each.0
 each_among P (g ∷ fs) f each (inr h) = each_among P fs f each.1 h
 

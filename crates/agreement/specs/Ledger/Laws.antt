@@ -54,6 +54,7 @@ said_before l a s fs f lacks h = ⊎_elim (λ k. absurd (lacking_not_among fs f 
 
 pub only_among : (f g : Fact) → Among f (g ∷ []) → f ≡ g
 only_among f g (inl e) = e
+only_among f g (inr h) = elim h [ ]
 
 -- ---- equal facts have equal parts
 

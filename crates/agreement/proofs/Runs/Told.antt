@@ -16,7 +16,7 @@ use Rattle.agreement.specs.Ledger.{Ledger, Said, ◌⊑◌, proposed}
 use Rattle.agreement.specs.Ledger.Kept.{Kept}
 use Rattle.agreement.specs.Majorities.{In, CollectSet}
 use Rattle.agreement.specs.Box.{RoomTold, ToldBy, EventTold}
-use Rattle.agreement.specs.Box.Laws.{event_lasts}
+use Rattle.agreement.proofs.Box.Laws.{event_lasts}
 use Rattle.agreement.specs.Runs.{World, Among, Outside, Delivered, answer_to, after, MayCall, ProposesFor}
 use Rattle.agreement.specs.Runs.Keeps.{with_message_keeps}
 

@@ -35,7 +35,7 @@ use Rattle.agreement.specs.Runs.Run.{still}
 use Rattle.agreement.specs.Runs.Keeps.{head_in, with_message_keeps, proposed_or_put_out}
 use Rattle.agreement.specs.Finishing.{Listed, Turn, turn, Turns, proposal, replies}
 use Rattle.agreement.specs.Finishing.Turns.{none, next}
-use Rattle.agreement.specs.Finishing.Reaches.{first_boxes, first_below, fresh_finish, all_fresh}
+use Rattle.agreement.proofs.Finishing.Reaches.{first_boxes, first_below, fresh_finish, all_fresh}
 use Rattle.agreement.specs.Promises.{Count, Promises}
 use Rattle.agreement.specs.Tight.Impostors.{step_with, told, invents_count}
 use Rattle.agreement.specs.Tight.Ways.{settled, call_ways}

@@ -11,12 +11,12 @@ use Rattle.consensus.specs.Step.{step}
 use Rattle.step_laws.specs.EventLaws.{names_a_slot}
 use Rattle.step_laws.specs.GivenWhen.{SuccessWithAnother, AtItsSlot}
 use Rattle.step_laws.specs.AnswerLaws.{given_exactly_when}
-use Rattle.agreement.specs.Ledger.Agrees.{agreement}
+use Rattle.agreement.proofs.Ledger.Agrees.{agreement}
 use Rattle.agreement.specs.Majorities.{In, CollectSet, BeginSet, sets_meet}
 use Rattle.agreement.specs.Box.{ToldBy}
 use Rattle.agreement.specs.Runs.{World, start, answer_to, MayCall, Run}
-use Rattle.agreement.specs.Runs.Told.{called_told}
-use Rattle.agreement.specs.Runs.Agrees.{from_start}
+use Rattle.agreement.proofs.Runs.Told.{called_told}
+use Rattle.agreement.proofs.Runs.Agrees.{from_start}
 
 pub never_six : (n : ℕ) → 1 ≤ n → n ≤ max_boxes → (w : World) (i : ℕ) (e : Event) → Run step n (start n) w → MayCall n w i e → answer_number (answer_to step w i e) ≢ 6
 never_six n some few w i e run may six =

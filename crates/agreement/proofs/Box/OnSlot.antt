@@ -10,12 +10,12 @@ use Rattle.step_laws.specs.EventLaws.{event_cases}
 use Rattle.step_laws.specs.EventLaws.EventCases.{a_propose, a_collect, a_last, a_begin, an_accept, a_success, an_old_round, a_restart}
 use Rattle.agreement.specs.Ledger.{Ledger}
 use Rattle.agreement.specs.Box.{Situation, Told}
-use Rattle.agreement.specs.Box.Propose.{propose_told}
-use Rattle.agreement.specs.Box.Collect.{collect_told}
-use Rattle.agreement.specs.Box.Last.{last_told}
-use Rattle.agreement.specs.Box.Begin.{begin_told}
-use Rattle.agreement.specs.Box.Accept.{accept_told}
-use Rattle.agreement.specs.Box.Success.{success_told, old_round_told}
+use Rattle.agreement.proofs.Box.Propose.{propose_told}
+use Rattle.agreement.proofs.Box.Collect.{collect_told}
+use Rattle.agreement.proofs.Box.Last.{last_told}
+use Rattle.agreement.proofs.Box.Begin.{begin_told}
+use Rattle.agreement.proofs.Box.Accept.{accept_told}
+use Rattle.agreement.proofs.Box.Success.{success_told, old_round_told}
 
 pub on_slot_told : (h : Head) (r : Room) (e : Event) (l : Ledger) → e.kind ≢ restart → Situation h r e l → Told h r e l (on_slot h r e)
 unfolding on_slot

@@ -17,8 +17,8 @@ use Rattle.agreement.specs.Ledger.Update.{update_same}
 use Rattle.agreement.specs.Ledger.{Lasting, Ledger, Said, proposed, begun, voted, after_vote, votes, stays, moves}
 use Rattle.agreement.specs.Ledger.Laws.{said_before}
 use Rattle.agreement.specs.Box.{Situation, Told}
-use Rattle.agreement.specs.Box.Laws.{same_round, heard}
-use Rattle.agreement.specs.Box.Collect.{too_old_told}
+use Rattle.agreement.proofs.Box.Laws.{same_round, heard}
+use Rattle.agreement.proofs.Box.Collect.{too_old_told}
 
 module _ (h : Head) (r : Room) (e : Event) (l : Ledger) (kind : e.kind ≡ begin) (here : Situation h r e l) (reach : promised r ≤ e.ballot.0) where
   abbrev l' : Ledger

@@ -12,7 +12,8 @@ use Rattle.consensus.specs.Step.{step}
 use Rattle.step_laws.specs.ByTest.{by_test}
 use Rattle.agreement.specs.Promises.{Promises}
 use Rattle.agreement.specs.Tight.Impostors.{refuses_all, sends_always, leaves_table, agrees_at_propose, message_kind, never_sends, ignores}
-use Rattle.agreement.specs.Tight.Families.{refusing_breaks, one_message_breaks, same_table_breaks, saying_at_once_breaks, no_success_breaks, Unheeded, unheeded_restart_breaks, unheeded_success_breaks}
+use Rattle.agreement.specs.Tight.Families.{Unheeded}
+use Rattle.agreement.proofs.Tight.Families.{refusing_breaks, one_message_breaks, same_table_breaks, saying_at_once_breaks, no_success_breaks, unheeded_restart_breaks, unheeded_success_breaks}
 
 pub refuses_all_breaks : (a : Answer) → answer_number a ≢ 0 → ¬ Promises (refuses_all a)
 refuses_all_breaks a refusal = refusing_breaks (refuses_all a) (λ t e. refusal)

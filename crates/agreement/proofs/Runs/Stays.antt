@@ -30,7 +30,7 @@ use Rattle.step_laws.specs.StepKeeps.{step_room_at_slot, step_keeps_other}
 use Rattle.agreement.specs.Runs.{World, start, MayCall, Run, RestartsBox, RestartedIn, after, says}
 use Rattle.agreement.specs.Runs.Run.{still, ◌and_then◌}
 use Rattle.agreement.specs.Runs.Keeps.{BoxKept, RunKept, start_kept, run_keeps}
-use Rattle.agreement.specs.Runs.Agrees.{one_value}
+use Rattle.agreement.proofs.Runs.Agrees.{one_value}
 
 -- ---- one event on its slot
 

@@ -20,10 +20,10 @@ use Rattle.step_laws.specs.ByTest.{by_answer}
 use Rattle.agreement.specs.Ledger.Update.{update_same}
 use Rattle.agreement.specs.Ledger.{Lasting, Ledger, Said, opened, proposed, begun, promising, after_open, opens, stays, moves}
 use Rattle.agreement.specs.Ledger.Laws.{said_before}
-use Rattle.agreement.specs.Ledger.Agrees.{unbegun_above}
+use Rattle.agreement.proofs.Ledger.Agrees.{unbegun_above}
 use Rattle.agreement.specs.Majorities.{In, CollectSet}
 use Rattle.agreement.specs.Box.{Proposes, Situation, Told}
-use Rattle.agreement.specs.Box.Laws.{refused}
+use Rattle.agreement.proofs.Box.Laws.{refused}
 
 module _ (h : Head) (r : Room) (e : Event) (l : Ledger) (kind : e.kind ≡ propose) (here : Situation h r e l) (free : agreed r ≡ 0) where
   abbrev b : ℕ

@@ -4,7 +4,7 @@ use Rattle.std.specs.Prelude.{refl, List, [], ◌∷◌, ◌++◌, ℕ}
 use Rattle.agreement.specs.Promises.{Promises}
 use Rattle.agreement.specs.Tight.Impostors.{next_from_own, counts_twice}
 use Rattle.agreement.specs.Tight.Tally.{takes_most_sent}
-use Rattle.agreement.specs.Tight.Replays.{Propose, Last, Begin, Accept, Restart, Call, ◌gets◌, asked, collected, accepted, agreed_by, Replay, disagree, disagreement_breaks}
+use Rattle.agreement.proofs.Tight.Replays.{Propose, Last, Begin, Accept, Restart, Call, ◌gets◌, asked, collected, accepted, agreed_by, Replay, disagree, disagreement_breaks}
 
 -- ---- the next ballot from the own one
 

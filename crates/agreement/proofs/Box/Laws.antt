@@ -14,8 +14,8 @@ use Rattle.consensus.specs.Room.{phase, own_ballot, agreed, collecting, room, no
 use Rattle.consensus.specs.Events.{collect, last, begin, accept, success}
 use Rattle.agreement.specs.Ledger.{Ledger, Said, ◌⊑◌, begun, stays}
 use Rattle.agreement.specs.Ledger.Laws.{report_lasts}
-use Rattle.agreement.specs.Ledger.Frames.{Frame}
-use Rattle.agreement.specs.Ledger.Agrees.{chosen_lasts}
+use Rattle.agreement.proofs.Ledger.Frames.{Frame}
+use Rattle.agreement.proofs.Ledger.Agrees.{chosen_lasts}
 use Rattle.agreement.specs.Majorities.{In, BeginSet}
 use Rattle.agreement.specs.Box.{lasting_of, Agreed, CollectingTold, BegunTold, RoomTold, EventTold, AnswerTold, OutcomeTold, ToldBy, Situation}
 

@@ -12,7 +12,7 @@ use Rattle.consensus.specs.Choice.{if◌then◌else◌}
 use Rattle.step_laws.specs.ByTest.{by_test}
 use Rattle.agreement.specs.Promises.{Count, Promises}
 use Rattle.agreement.specs.Tight.Impostors.{invents_count}
-use Rattle.agreement.specs.Tight.Replays.{collected, agreed_by, Replay, disagree, disagreement_breaks}
+use Rattle.agreement.proofs.Tight.Replays.{collected, agreed_by, Replay, disagree, disagreement_breaks}
 
 -- the m boxes from k on
 abbrev boxes_from : ℕ → ℕ → List ℕ

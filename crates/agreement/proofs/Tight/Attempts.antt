@@ -15,9 +15,9 @@ use Rattle.agreement.specs.Runs.{StepFunction, World, start, Among, after, Run, 
 use Rattle.agreement.specs.Runs.Run.{still}
 use Rattle.agreement.specs.Finishing.{JustEnough, Turn, TakesTurn, Turns, proposal, MayFinish, replies}
 use Rattle.agreement.specs.Finishing.Turns.{none, next}
-use Rattle.agreement.specs.Finishing.Reaches.{same_order}
+use Rattle.agreement.proofs.Finishing.Reaches.{same_order}
 use Rattle.agreement.specs.Promises.{Promises}
-use Rattle.agreement.specs.Tight.Replays.{same_event, same_event_is_equal, Call, world_after, may_make_all, run_of, apart}
+use Rattle.agreement.proofs.Tight.Replays.{same_event, same_event_is_equal, Call, world_after, may_make_all, run_of, apart}
 
 -- ---- turns that can be made in one way
 
@@ -43,6 +43,7 @@ module _ (s b k q : ℕ) (e : Event) where
 
   carried_is : (ms : List Message) (m : Message) → all_carry ms ≡ true → Among m ms → fits m.event ≡ true → m.event ≡ e
   unfolding all_carry
+  carried_is [] m all among = elim among [ ]
   carried_is (x ∷ ms) m all (inl same) =
       fitting_is m.event (subst (λ (y : Message). carries y.event ≡ true) (sym same) ((and-eq-true_iff (carries x.event) (all_carry ms)).0 all).0)
   carried_is (x ∷ ms) m all (inr among) = carried_is ms m ((and-eq-true_iff (carries x.event) (all_carry ms)).0 all).1 among

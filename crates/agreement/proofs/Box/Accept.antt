@@ -9,7 +9,7 @@ use Rattle.consensus.specs.declared.Room.{Room}
 use Rattle.consensus.specs.declared.Event.{Event}
 use Rattle.consensus.specs.declared.Outcome.TheVariants.{Becomes}
 use Rattle.consensus.specs.declared.Answer.TheVariants.{Quiet, NotAwaited}
-use Rattle.consensus.specs.Room.{own_ballot, own_value, lasts, accepts, agreed, begun as begunPhase, round, room, no_round}
+use Rattle.consensus.specs.Room.{own_ballot, own_value, lasts, accepts, agreed, begun as begun_phase, round, room, no_round}
 use Rattle.consensus.specs.Enough.{enough_to_begin}
 use Rattle.consensus.specs.Events.{accept, success}
 use Rattle.consensus.specs.OnSlot.{all_boxes, send, awaited, on_accept}
@@ -20,9 +20,9 @@ use Rattle.step_laws.specs.AwaitedLaws.{Awaited, awaited_clauses, counted_are_bo
 use Rattle.agreement.specs.Ledger.{Ledger, Said, voted}
 use Rattle.agreement.specs.Majorities.{In, enough_begins, counted_all}
 use Rattle.agreement.specs.Box.{Agreed, BegunTold, Situation, Told}
-use Rattle.agreement.specs.Box.Laws.{idle_told, unmoved, refused, heard}
+use Rattle.agreement.proofs.Box.Laws.{idle_told, unmoved, refused, heard}
 
-module _ (h : Head) (r : Room) (e : Event) (l : Ledger) (kind : e.kind ≡ accept) (here : Situation h r e l) (mine : Awaited r e begunPhase (accepts r)) where
+module _ (h : Head) (r : Room) (e : Event) (l : Ledger) (kind : e.kind ≡ accept) (here : Situation h r e l) (mine : Awaited r e begun_phase (accepts r)) where
   abbrev counted : ℕ
   counted = with_box (accepts r) e.from
 
@@ -40,7 +40,7 @@ module _ (h : Head) (r : Room) (e : Event) (l : Ledger) (kind : e.kind ≡ accep
       counted_are_boxes h (accepts r) e.from here.head_kept (kept_clauses h r here.room_kept).round_is_kept.accepts_are_boxes
       (accept_clauses h.boxes e kind here.good_event).from_below
 
-  more_told : Told h r e l (Becomes (room r.saved (round begunPhase r.round.own r.round.best (lasts r) counted) (agreed r)) Quiet)
+  more_told : Told h r e l (Becomes (room r.saved (round begun_phase r.round.own r.round.best (lasts r) counted) (agreed r)) Quiet)
   more_told =
       unmoved _ _ l r e _ Quiet
       (record {
@@ -64,9 +64,9 @@ module _ (h : Head) (r : Room) (e : Event) (l : Ledger) (kind : e.kind ≡ accep
 pub accept_told : (h : Head) (r : Room) (e : Event) (l : Ledger) → e.kind ≡ accept → Situation h r e l → Told h r e l (on_accept h r e)
 unfolding on_accept
 accept_told h r e l kind here =
-    by_answer (awaited r e begunPhase (accepts r))
+    by_answer (awaited r e begun_phase (accepts r))
     (λ met.
-    let mine = awaited_clauses r e begunPhase (accepts r) met in
+    let mine = awaited_clauses r e begun_phase (accepts r) met in
     by_answer (enough_to_begin h (with_box (accepts r) e.from))
     (λ enough. simp (met, enough) (agreed_told h r e l kind here mine enough))
     (λ few. simp (met, few) (more_told h r e l kind here mine)))

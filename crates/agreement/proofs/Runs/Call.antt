@@ -29,15 +29,15 @@ use Rattle.step_laws.specs.SentLaws.{step_sends}
 use Rattle.agreement.specs.Ledger.Update.{update, update_same, update_other}
 use Rattle.agreement.specs.Ledger.{Ledger, Said, ◌⊑◌, proposed}
 use Rattle.agreement.specs.Ledger.Kept.{Kept}
-use Rattle.agreement.specs.Ledger.Keeps.{moves_keep}
-use Rattle.agreement.specs.Ledger.Frames.{Frame, moves_frame}
+use Rattle.agreement.proofs.Ledger.Keeps.{moves_keep}
+use Rattle.agreement.proofs.Ledger.Frames.{Frame, moves_frame}
 use Rattle.agreement.specs.Majorities.{In, CollectSet}
 use Rattle.agreement.specs.Box.{RoomTold, EventTold, AnswerTold, OutcomeTold}
-use Rattle.agreement.specs.Box.Laws.{idle_told, frame_told}
-use Rattle.agreement.specs.Box.OnSlot.{on_slot_told}
+use Rattle.agreement.proofs.Box.Laws.{idle_told, frame_told}
+use Rattle.agreement.proofs.Box.OnSlot.{on_slot_told}
 use Rattle.agreement.specs.Runs.{World, answer_to, MayCall, ProposesFor}
 use Rattle.agreement.specs.Runs.Keeps.{BoxKept, RunKept}
-use Rattle.agreement.specs.Runs.Told.{Ledgers, WorldTold, CallTold, called_told, after_told}
+use Rattle.agreement.proofs.Runs.Told.{Ledgers, WorldTold, CallTold, called_told, after_told}
 
 -- the answer told at whatever it sends
 sent_told : (n : ℕ) (l : Ledger) (a : Answer) (m : Message) → AnswerTold n l a → a ≡ Sends m → EventTold n l m.event

@@ -10,16 +10,16 @@ use Rattle.consensus.specs.Step.{step}
 use Rattle.step_laws.specs.LayoutLaws.{room_at_fresh}
 use Rattle.agreement.specs.Ledger.{Said, ◌⊑◌, proposed, begun, empty_ledger}
 use Rattle.agreement.specs.Ledger.Kept.{BoxKept}
-use Rattle.agreement.specs.Ledger.Keeps.{empty_kept}
-use Rattle.agreement.specs.Ledger.Agrees.{agreement, chosen_was_proposed}
+use Rattle.agreement.proofs.Ledger.Keeps.{empty_kept}
+use Rattle.agreement.proofs.Ledger.Agrees.{agreement, chosen_was_proposed}
 use Rattle.agreement.specs.Majorities.{In, CollectSet, BeginSet, sets_meet}
 use Rattle.agreement.specs.Box.{RoomTold}
-use Rattle.agreement.specs.Box.Laws.{agreed_lasts, idle_told}
+use Rattle.agreement.proofs.Box.Laws.{agreed_lasts, idle_told}
 use Rattle.agreement.specs.Runs.{World, start, Run, ProposedIn, says, has_accepted}
 use Rattle.agreement.specs.Runs.Run.{still, ◌and_then◌}
 use Rattle.agreement.specs.Runs.Keeps.{RunKept, start_kept, run_keeps}
-use Rattle.agreement.specs.Runs.Told.{Ledgers, WorldTold}
-use Rattle.agreement.specs.Runs.Call.{call_told}
+use Rattle.agreement.proofs.Runs.Told.{Ledgers, WorldTold}
+use Rattle.agreement.proofs.Runs.Call.{call_told}
 
 -- nothing is said at the start
 pub start_told : (n : ℕ) → WorldTold n (start n) (λ s. empty_ledger)

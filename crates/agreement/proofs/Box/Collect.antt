@@ -15,7 +15,7 @@ use Rattle.agreement.specs.Ledger.Update.{update_same}
 use Rattle.agreement.specs.Ledger.{Lasting, Ledger, Said, proposed, reported, begun, promising, after_report, reports, stays, moves}
 use Rattle.agreement.specs.Ledger.Laws.{said_before}
 use Rattle.agreement.specs.Box.{Situation, Told}
-use Rattle.agreement.specs.Box.Laws.{same_round, unmoved, heard}
+use Rattle.agreement.proofs.Box.Laws.{same_round, unmoved, heard}
 
 -- OldRound tells nothing
 pub too_old_told : (h : Head) (r : Room) (e : Event) (l : Ledger) → Situation h r e l → Told h r e l (too_old h r e)

@@ -17,13 +17,13 @@ use Rattle.consensus.specs.Answers.{answer_number}
 use Rattle.step_laws.specs.EventTests.{clauses_propose}
 use Rattle.agreement.specs.Runs.{World, Among, after, says, has_promised, has_accepted}
 use Rattle.agreement.specs.Runs.Keeps.{head_in, RunKept, reachable_kept}
-use Rattle.agreement.specs.Runs.Agrees.{one_vote}
+use Rattle.agreement.proofs.Runs.Agrees.{one_vote}
 use Rattle.agreement.specs.Finishing.{OrderOf, parcel, Turn, Turns, turn, proposal, MayFinish, HighestAccepted, Finishes, FinishesAll}
 use Rattle.agreement.specs.Finishing.Calls.{room_in, Called, call_becomes, by_box, turns_append}
 use Rattle.agreement.specs.Finishing.Asks.{FitToBegin, FitToCollect, ReportsAccepted, ReportsNothing, collect_replies, begin_replies}
 use Rattle.agreement.specs.Finishing.Counts.{Underway}
-use Rattle.agreement.specs.Finishing.Highest.{OneVote, none_yet, best_is_highest}
-use Rattle.agreement.specs.Finishing.Halves.{CollectingFor, Begins, last_counter, BegunFor, AgreesOn, accept_counter, Ready, half_round}
+use Rattle.agreement.proofs.Finishing.Highest.{OneVote, none_yet, best_is_highest}
+use Rattle.agreement.proofs.Finishing.Halves.{CollectingFor, Begins, last_counter, BegunFor, AgreesOn, accept_counter, Ready, half_round}
 
 proposes : (n p s v : ℕ) (r : Room) → agreed r ≡ 0 → next_x (promised r) ≤ max_x → on_slot (head_in n p) r (proposal s v) ≡
     Becomes

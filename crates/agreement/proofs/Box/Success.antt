@@ -16,7 +16,7 @@ use Rattle.step_laws.specs.ByTest.{by_answer}
 use Rattle.agreement.specs.Ledger.Update.{update_same}
 use Rattle.agreement.specs.Ledger.{Lasting, Ledger, promising, after_raise, raises, stays, moves}
 use Rattle.agreement.specs.Box.{Situation, Told}
-use Rattle.agreement.specs.Box.Laws.{agreed_lasts, idle_told, unmoved, refused, heard}
+use Rattle.agreement.proofs.Box.Laws.{agreed_lasts, idle_told, unmoved, refused, heard}
 
 pub success_told : (h : Head) (r : Room) (e : Event) (l : Ledger) → e.kind ≡ success → Situation h r e l → Told h r e l (on_success h r e)
 unfolding on_success

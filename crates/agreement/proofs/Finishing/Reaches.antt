@@ -13,7 +13,7 @@ use Rattle.agreement.specs.Runs.{StepFunction, World, start, Run, after, says, h
 use Rattle.agreement.specs.Runs.Run.{still, ◌and_then◌}
 use Rattle.agreement.specs.Finishing.{Listed, Distinct, JustEnough, OrderOf, Turn, Turns, proposal, MayFinish, Finishes, FinishesAll}
 use Rattle.agreement.specs.Finishing.Turns.{none, next}
-use Rattle.agreement.specs.Finishing.All.{finishes_all}
+use Rattle.agreement.proofs.Finishing.All.{finishes_all}
 
 -- ---- the first m boxes
 

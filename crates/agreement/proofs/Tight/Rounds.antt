@@ -3,8 +3,8 @@
 use Rattle.std.specs.Prelude.{refl, [], ◌∷◌, replicate}
 use Rattle.agreement.specs.Promises.{Promises}
 use Rattle.agreement.specs.Tight.Impostors.{answers_above, keeps_own_value}
-use Rattle.agreement.specs.Tight.Replays.{Propose, Collect, Last, Begin, Accept, ◌gets◌}
-use Rattle.agreement.specs.Tight.Attempts.{Attempt, fails, attempt_breaks}
+use Rattle.agreement.proofs.Tight.Replays.{Propose, Collect, Last, Begin, Accept, ◌gets◌}
+use Rattle.agreement.proofs.Tight.Attempts.{Attempt, fails, attempt_breaks}
 
 -- the own Collect is answered with OldRound: no Last is put out for the turns after it, so that any event may stand for theirs
 abbrev own_round : Attempt

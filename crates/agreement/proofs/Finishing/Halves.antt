@@ -25,7 +25,7 @@ use Rattle.agreement.specs.Finishing.{JustEnough, OrderOf, parcel, Turns, turn}
 use Rattle.agreement.specs.Finishing.Calls.{room_in, turns_append}
 use Rattle.agreement.specs.Finishing.Asks.{Standing, Replies, ReportsAccepted, ReportsNothing, Asked, every_asked}
 use Rattle.agreement.specs.Finishing.Counts.{Underway, Counter, Waiting, every_counted}
-use Rattle.agreement.specs.Finishing.Highest.{BestOf, better_is_best}
+use Rattle.agreement.proofs.Finishing.Highest.{BestOf, better_is_best}
 
 -- ---- how Lasts are counted
 

@@ -12,7 +12,7 @@ use Rattle.consensus.specs.declared.Room.{Room}
 use Rattle.consensus.specs.declared.Event.{Event}
 use Rattle.consensus.specs.declared.Outcome.TheVariants.{Becomes}
 use Rattle.consensus.specs.declared.Answer.TheVariants.{Quiet, NotAwaited}
-use Rattle.consensus.specs.Room.{own_ballot, best_ballot, lasts, accepts, agreed, collecting, begun as begunPhase, vote, round, room, no_vote}
+use Rattle.consensus.specs.Room.{own_ballot, best_ballot, lasts, accepts, agreed, collecting, begun as begun_phase, vote, round, room, no_vote}
 use Rattle.consensus.specs.Enough.{enough_to_collect}
 use Rattle.consensus.specs.Events.{last, begin}
 use Rattle.consensus.specs.OnSlot.{all_boxes, send, awaited, better, to_begin, on_last}
@@ -25,7 +25,7 @@ use Rattle.agreement.specs.Ledger.{Ledger, Said, proposed, reported, begun, Repo
 use Rattle.agreement.specs.Ledger.Laws.{said_before}
 use Rattle.agreement.specs.Majorities.{In, CollectSet, enough_collects, counted_all}
 use Rattle.agreement.specs.Box.{CollectingTold, Situation, Told}
-use Rattle.agreement.specs.Box.Laws.{agreed_lasts, unmoved, refused, heard}
+use Rattle.agreement.proofs.Box.Laws.{agreed_lasts, unmoved, refused, heard}
 
 module _ (h : Head) (r : Room) (e : Event) (l : Ledger) (kind : e.kind ≡ last) (here : Situation h r e l) (mine : Awaited r e collecting (lasts r)) where
   abbrev counted : ℕ
@@ -115,7 +115,7 @@ module _ (h : Head) (r : Room) (e : Event) (l : Ledger) (kind : e.kind ≡ last)
     before : (w : ℕ) → Said (proposed w) l' → Said (proposed w) l
     before w = said_before l h.index (l.box h.index) (begun (own_ballot r) v ∷ []) (proposed w) (omega arith)
 
-    begun_told : Told h r e l (Becomes (room r.saved (round begunPhase (vote (own_ballot r) v) no_vote 0 0) (agreed r)) (send h e all_boxes begin (own_ballot r) 0 v))
+    begun_told : Told h r e l (Becomes (room r.saved (round begun_phase (vote (own_ballot r) v) no_vote 0 0) (agreed r)) (send h e all_boxes begin (own_ballot r) 0 v))
     begun_told =
         record {
           next = l';

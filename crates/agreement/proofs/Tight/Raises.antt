@@ -3,7 +3,7 @@
 use Rattle.std.specs.Prelude.{refl, [], ◌∷◌, ◌++◌}
 use Rattle.agreement.specs.Promises.{Promises}
 use Rattle.agreement.specs.Tight.Impostors.{promises_at_begin, promises_at_restart, tells_largest}
-use Rattle.agreement.specs.Tight.Replays.{Propose, OldRound, Restart, ◌gets◌, asked, collected, accepted, Raise, raises, raise_breaks}
+use Rattle.agreement.proofs.Tight.Replays.{Propose, OldRound, Restart, ◌gets◌, asked, collected, accepted, Raise, raises, raise_breaks}
 
 -- a box accepts its own value in slot 0, and has promised slot 1 away
 abbrev after_begin : Raise

@@ -233,7 +233,7 @@ run_proposes : (f : StepFunction) (n : ℕ) (v w : World) (cs : List Call) (run 
 unfolding may_make_all run_of proposed
 run_proposes f n v w [] run ok = omega arith
 run_proposes f n v w (c ∷ cs) run ok =
-    let parts = (and-eq-true_iff _ _).0 ok in
+    let parts : (may_make n w c ≡ true) × (may_make_all f n (after f w c.box c.event) cs ≡ true) = (and-eq-true_iff _ _).0 ok in
     omega (
       arith,
       run_proposes f n v (after f w c.box c.event) cs (◌and_then◌ run (made_call_is_allowed n w c parts.0)) parts.1,
