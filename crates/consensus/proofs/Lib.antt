@@ -1,4 +1,2 @@
 pub mod Answered
 pub mod Restarting
-pub mod Stores
-pub mod Tested

@@ -1,6 +1,6 @@
 -- How the text of a line goes on with the number at i, and what a buffer holds once i numbers are put.
 -- Relies on Text, Places and Puts. Cited by the proofs of measure and put_line.
-use Rattle.std.proofs.Common.{ℕ, ◌+◌, ◌-◌, ◌<◌, ◌≤◌, ◌≡◌, refl, ap, sym, ◌∙◌, List, [], ◌∷◌, ◌++◌, append_assoc, append-nil, add-one, arith, length, take, drop, get_or, set, length-append, length-take, length-drop, drop_of_length-le, take-append-drop, drop-cons, take_at, drop_at, drop-drop}
+use Rattle.std.proofs.Common.{ℕ, ◌+◌, ◌-◌, ◌<◌, ◌≤◌, ◌≡◌, ap, sym, ◌∙◌, List, [], ◌∷◌, ◌++◌, append_assoc, append-nil, add-one, arith, length, take, drop, get_or, set, length-append, length-take, length-drop, drop_of_length-le, take-append-drop, drop-cons, take_at, drop_at, drop-drop}
 use Rattle.lines.specs.Text.{number_text, line_text, end_byte}
 use Rattle.lines.specs.Places.{text_at}
 use Rattle.lines.proofs.Puts.{put_length, put_next}
@@ -31,9 +31,6 @@ pub record PutSoFar (ns out₀ : List ℕ) (at i : ℕ) (out : List ℕ) : Type 
   pub rest : drop at out ≡ drop at out₀
 
 module _ (ns out₀ : List ℕ) where
-  pub put_none : PutSoFar ns out₀ 0 0 out₀
-  put_none = record { same_length = refl; place = omega arith; front = refl; rest = refl }
-
   module _ (at i : ℕ) (out : List ℕ) (so_far : PutSoFar ns out₀ at i out) where
     put_text : (text : List ℕ) (j : ℕ) → length (line_text ns) ≤ length out₀ →
         line_text (drop i ns) ≡ text ++ line_text (drop j ns) → PutSoFar ns out₀ (at + length text) j (text_at out at text)

@@ -1,7 +1,6 @@
 -- How reading a line's numbers goes on or stops after the number at a place, with the numbers read so far.
 -- Relies on Read and Places. Cited by the proof of read_numbers.
-use Rattle.std.proofs.Common.{ℕ, suc, ◌+◌, ◌-◌, ◌<◌, ◌≤◌, ◌≡◌, refl, ap, sym, ◌∙◌, List, [], ◌++◌, append_assoc, append-nil, Bool, true, false, add-one, arith, length, take, drop, get_or, set, length-set, drop_of_length-le, drop-cons, take-suc-set, take_all, leb, eq-eqb, ne_eqb, leb-true, leb-false}
-use Rattle.std.proofs.Math.Nat.{sub-zero}
+use Rattle.std.proofs.Common.{ℕ, suc, ◌+◌, ◌-◌, ◌<◌, ◌≤◌, ◌≡◌, refl, ap, sym, ◌∙◌, List, ◌++◌, append_assoc, append-nil, Bool, true, false, add-one, arith, length, take, drop, get_or, set, length-set, drop_of_length-le, drop-cons, take-suc-set, take_all, leb, eq-eqb, ne_eqb, leb-true, leb-false}
 use Rattle.lines.specs.declared.Number.{Number}
 use Rattle.lines.specs.declared.Number.TheVariants.{Whole, Bad}
 use Rattle.lines.specs.Text.{end_byte}
@@ -13,10 +12,6 @@ use Rattle.lines.specs.Places.{number_placed, numbers_placed}
 abbrev joined : List ℕ → NumbersRead → NumbersRead
 joined front (the_numbers ns) = the_numbers (front ++ ns)
 joined front no_numbers = no_numbers
-
-joined_none : (r : NumbersRead) → joined [] r ≡ r
-joined_none (the_numbers ns) = refl
-joined_none no_numbers = refl
 
 joined_before : (ns : List ℕ) (i v : ℕ) (r : NumbersRead) → i < length ns →
     joined (take i ns) (before v r) ≡ joined (take (i + 1) (set ns i v)) r
@@ -30,9 +25,6 @@ pub record ReadSoFar (line ns₀ : List ℕ) (at i : ℕ) (ns : List ℕ) : Type
   pub whole : joined (take i ns) (read_numbers (length ns - i) (drop at line)) ≡ read_numbers (length ns₀) line
 
 module _ (line ns₀ : List ℕ) where
-  pub read_none : ReadSoFar line ns₀ 0 0 ns₀
-  read_none = record { same_length = refl; within = omega arith; whole = rw sub-zero (joined_none _) }
-
   module _ (at i : ℕ) (ns : List ℕ) (so_far : ReadSoFar line ns₀ at i ns) where
     stops : read_numbers (length ns - i) (drop at line) ≡ no_numbers → no_numbers ≡ read_numbers (length ns₀) line
     stops e = sym (ap (joined (take i ns)) e) ∙ so_far.whole
