@@ -1,6 +1,6 @@
 -- How a box keeps the ledger of a slot: what its room says has been said in the ledger, and so has what its messages say.
 -- Relies on Ledger and Majorities. Cited by the laws of each kind of event and by the laws of runs.
-use Rattle.std.specs.Prelude.{ℕ, ◌≡◌, true, ◌≢◌, ◌⊎◌, eqb}
+use Rattle.std.specs.Prelude.{ℕ, ◌≡◌, true, ◌≢◌, ◌⊎◌, eqb, cond}
 use Rattle.ballots.specs.Ballot.{maker_of}
 use Rattle.consensus.specs.declared.Head.{Head}
 use Rattle.consensus.specs.declared.Round.{Round}
@@ -11,7 +11,6 @@ use Rattle.consensus.specs.declared.Answer.{Answer}
 use Rattle.consensus.specs.declared.Answer.TheVariants.{Quiet, Sends, BadTable, BadEvent, NotWellKept, NotAwaited, AlreadyAgreed, OtherAgreed, NoBallotLeft}
 use Rattle.consensus.specs.declared.Outcome.{Outcome}
 use Rattle.consensus.specs.Room.{promised, accepted_ballot, accepted_value, phase, agreed, collecting, begun as begun_phase}
-use Rattle.consensus.specs.Choice.{if◌then◌else◌}
 use Rattle.consensus.specs.WellKept.{well_kept}
 use Rattle.consensus.specs.Events.{propose, collect, last, begin, accept, success, event_ok}
 use Rattle.step_laws.specs.HeadLaws.{HeadKept}
@@ -52,12 +51,12 @@ pub record RoomTold (n i : ℕ) (l : Ledger) (r : Room) : Type 0 where
 -- what an event of kind k says was said
 abbrev pub ToldBy : ℕ → Ledger → ℕ → Event → Type 0
 ToldBy n l k e =
-    if eqb k collect then Said (opened e.ballot.0) l
-    else if eqb k last then Said (reported e.from e.ballot.0 e.second.0 e.value) l
-    else if eqb k begin then Said (begun e.ballot.0 e.value) l
-    else if eqb k accept then Said (voted e.from e.ballot.0) l
-    else if eqb k success then Agreed n l e.value
-    else Unit {0}
+    cond (eqb k collect) (Said (opened e.ballot.0) l)
+    (cond (eqb k last) (Said (reported e.from e.ballot.0 e.second.0 e.value) l)
+    (cond (eqb k begin) (Said (begun e.ballot.0 e.value) l)
+    (cond (eqb k accept) (Said (voted e.from e.ballot.0) l)
+    (cond (eqb k success) (Agreed n l e.value)
+    (Unit {0})))))
 
 abbrev pub EventTold : ℕ → Ledger → Event → Type 0
 EventTold n l e = ToldBy n l e.kind e

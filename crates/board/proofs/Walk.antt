@@ -1,5 +1,6 @@
 -- The walk over the slots: at each slot, applying what is left of the run to the entry so far gives the known prefix's entry.
 -- Relies on specs/Board. Cited by the proof of `entry_of`.
+use Rattle.std.specs.Prelude.{if◌then◌else◌}
 use Prim.Native.Nat.{ℕ, suc, ◌+◌, ◌-◌, ◌≤◌, ◌<◌}
 use mathlib.Core.Path.{◌≡◌, refl, sym, ◌∙◌}
 use mathlib.Core.Bool.{Bool, true, false, not, ◌&&◌}
@@ -7,7 +8,6 @@ use mathlib.Core.List.{List, [], ◌∷◌}
 use native.Mathlib.Numerals.{add-one}
 use native.Mathlib.Omega.{arith}
 use lib.Dec.{eqb}
-use Rattle.consensus.specs.Choice.{if◌then◌else◌}
 use Rattle.consensus.specs.Layout.{slots}
 use Rattle.consensus.specs.Step.{agreed_at}
 use Rattle.board.specs.declared.Entry.{Entry}

@@ -1,8 +1,7 @@
 -- The board: what a command does to the entry of a link, the known prefix of a table, and what the board answers for a link.
 -- Relies on Command and, of a table, on `table_ok` and `agreed_at` alone. Cited by the contracts, the laws and the cases.
-use Rattle.std.specs.Prelude.{ℕ, zero, suc, ◌+◌, not, ◌&&◌, ltb, eqb}
+use Rattle.std.specs.Prelude.{ℕ, zero, suc, ◌+◌, not, ◌&&◌, ltb, eqb, if◌then◌else◌}
 use mathlib.Core.List.{List, [], ◌∷◌, foldl}
-use Rattle.consensus.specs.Choice.{if◌then◌else◌}
 use Rattle.consensus.specs.Layout.{slots}
 use Rattle.consensus.specs.Step.{table_ok, agreed_at}
 use Rattle.board.specs.declared.Command.{Command}

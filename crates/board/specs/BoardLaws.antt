@@ -1,12 +1,11 @@
 -- Laws of the board: which answers occur and when, and what a command can change.
 -- Relies on Board. Cited by the proofs of the functions, by PrefixLaws and OwnerLaws, and by whoever promises something of the board.
-use Rattle.std.specs.Prelude.{ℕ, ◌+◌, ◌≤◌, ◌<◌, ◌≡◌, refl, Bool, true, false, not, List, ◌↔◌, ◌⊎◌, ltb, get_or}
+use Rattle.std.specs.Prelude.{ℕ, ◌+◌, ◌≤◌, ◌<◌, ◌≡◌, refl, Bool, true, false, not, List, ◌↔◌, ◌⊎◌, ltb, get_or, if◌then◌else◌}
 use Rattle.std.proofs.Common.{sym, ap, ◌∙◌, true≢false, inl, inr, arith, lt_of_not-le}
 use Rattle.std.proofs.lemmas.Bool.{false≢true}
 use Rattle.std.proofs.Math.Bool.{and-false}
 use Rattle.std.proofs.Math.Decide.{dec_le, ℕ_discrete}
 use borrow.Author.Tests.{ltb-true, ltb-false, lt-ltb, le-ltb, eq-eqb, ne_eqb}
-use Rattle.consensus.specs.Choice.{if◌then◌else◌}
 use Rattle.consensus.specs.Step.{table_ok}
 use Rattle.step_laws.specs.ByTest.{by_answer}
 use Rattle.board.specs.declared.Command.{Command}

@@ -1,10 +1,9 @@
 -- Laws of known prefixes, over lists of values and over what each slot has agreed: a link's revision never has two tickets nor two owners.
 -- Relies on BoardLaws. Cited by the promises about any two known prefixes that one run shows.
-use Rattle.std.specs.Prelude.{ℕ, zero, suc, ◌+◌, ◌≤◌, ◌<◌, ◌≡◌, refl, Bool, true, false, ◌⊎◌, eqb}
+use Rattle.std.specs.Prelude.{ℕ, zero, suc, ◌+◌, ◌≤◌, ◌<◌, ◌≡◌, refl, Bool, true, false, ◌⊎◌, eqb, if◌then◌else◌}
 use Rattle.std.proofs.Common.{sym, ap, ap₂, ◌∙◌, inl, inr, arith}
 use mathlib.Core.List.{List, [], ◌∷◌, IsPrefix, foldl-append}
 use Rattle.std.proofs.lemmas.Bool.{eqb-false}
-use Rattle.consensus.specs.Choice.{if◌then◌else◌}
 use Rattle.consensus.specs.Layout.{slots}
 use Rattle.board.specs.declared.Command.{Command}
 use Rattle.board.specs.declared.Entry.{Entry}

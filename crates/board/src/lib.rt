@@ -1,7 +1,6 @@
 // The board: for a link, its owner, its revision and its map ticket, as the agreed commands of a box's table have made them.
 // Relies on specs/, and of the box below on the contracts of `table_ok` and `agreed_at` alone.
-ghost use Rattle.std.specs.Prelude.{◌≡◌};
-ghost use Rattle.consensus.specs.Choice.{if◌then◌else◌};
+ghost use Rattle.std.specs.Prelude.{◌≡◌, if◌then◌else◌};
 ghost use Rattle.board.specs.Command.{command_of};
 ghost use Rattle.board.specs.Board.{claimed, revised, applied, known_prefix, entry_of, board_of};
 

@@ -1,11 +1,10 @@
 -- What one line of a replay does to the tables and to the buffer, and what the call returns.
 -- Relies on the reading of lines, the step and the numbers of an answer. Cited by call's contract.
-use Rattle.std.specs.Prelude.{ℕ, List, ◌++◌, not, length, drop, get_or, ltb, eqb}
+use Rattle.std.specs.Prelude.{ℕ, List, ◌++◌, not, length, drop, get_or, ltb, eqb, if◌then◌else◌}
 use Rattle.lines.specs.Text.{line_text}
 use Rattle.lines.specs.Read.{read_record}
 use Rattle.consensus.specs.declared.Event.{Event}
 use Rattle.consensus.specs.declared.Answer.TheVariants.{BadEvent}
-use Rattle.consensus.specs.Choice.{if◌then◌else◌}
 use Rattle.consensus.specs.Answers.{numbers_of}
 use Rattle.consensus.specs.Step.{Stepped, step}
 use Rattle.calls.specs.declared.Called.{Called}

@@ -1,8 +1,7 @@
 -- Where the first line of some bytes ends.
 -- Relies on the newline of lines. Cited by line_length's contract.
-use Rattle.std.specs.Prelude.{ℕ, zero, suc, List, [], ◌∷◌, eqb}
+use Rattle.std.specs.Prelude.{ℕ, zero, suc, List, [], ◌∷◌, eqb, if◌then◌else◌}
 use Rattle.lines.specs.Text.{newline}
-use Rattle.consensus.specs.Choice.{if◌then◌else◌}
 
 -- one byte more in front of a line, if there is a line
 abbrev pub longer : ℕ → ℕ

@@ -1,8 +1,7 @@
 -- The first line of a replay, the header, and how many boxes it names.
 -- Relies on the bytes of lines. Cited by boxes_of's contract.
-use Rattle.std.specs.Prelude.{ℕ, ◌-◌, List, Bool, ◌&&◌, length, get_or, leb, eqb}
+use Rattle.std.specs.Prelude.{ℕ, ◌-◌, List, Bool, ◌&&◌, length, get_or, leb, eqb, if◌then◌else◌}
 use Rattle.lines.specs.Text.{tab, newline, digit}
-use Rattle.consensus.specs.Choice.{if◌then◌else◌}
 
 -- "boxes", tab, N, newline
 abbrev pub header_length : ℕ

@@ -1,8 +1,7 @@
 -- The tables of all boxes of a replay, one after the other in one list.
 -- Relies on the layout of a table. Cited by Call and by fresh_tables's contract.
-use Rattle.std.specs.Prelude.{ℕ, zero, suc, ◌+◌, ◌*◌, List, [], ◌++◌, Bool, ◌&&◌, length, take, drop, leb, eqb}
+use Rattle.std.specs.Prelude.{ℕ, zero, suc, ◌+◌, ◌*◌, List, [], ◌++◌, Bool, ◌&&◌, length, take, drop, leb, eqb, if◌then◌else◌}
 use Rattle.ballots.specs.Ballot.{max_boxes}
-use Rattle.consensus.specs.Choice.{if◌then◌else◌}
 use Rattle.consensus.specs.Layout.{table_size, fresh}
 
 -- 1 to 7 boxes, and a table for each

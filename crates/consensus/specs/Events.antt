@@ -1,9 +1,8 @@
 -- The kinds of events, the constant table of the fields that each uses, and when an event keeps the rules.
 -- Cited by the step, which refuses an event that breaks them.
-use Rattle.std.specs.Prelude.{ℕ, ◌-◌, Bool, true, ◌&&◌, ◌||◌, not, List, [], ◌∷◌, leb, ltb, eqb, length, get_or}
+use Rattle.std.specs.Prelude.{ℕ, ◌-◌, Bool, true, ◌&&◌, ◌||◌, not, List, [], ◌∷◌, leb, ltb, eqb, length, get_or, if◌then◌else◌}
 use Rattle.ballots.specs.Ballot.{is_ballot, none_or_ballot, maker_of}
 use Rattle.consensus.specs.declared.Event.{Event}
-use Rattle.consensus.specs.Choice.{if◌then◌else◌}
 use Rattle.consensus.specs.Room.{ballot}
 use Rattle.consensus.specs.Layout.{slots}
 use Rattle.consensus.specs.WellKept.{zero_with}

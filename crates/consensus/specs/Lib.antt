@@ -1,4 +1,3 @@
-pub mod Choice
 pub mod Room
 pub mod Layout
 pub mod Enough

@@ -1,6 +1,6 @@
 -- What each kind of event does to its slot: one definition for each bullet of the rules' step.
 -- h is the box's head, r the slot's room, e an event that keeps the rules. Cited by the step on tables.
-use Rattle.std.specs.Prelude.{ℕ, max, Bool, not, ◌&&◌, ltb, eqb}
+use Rattle.std.specs.Prelude.{ℕ, max, Bool, not, ◌&&◌, ltb, eqb, if◌then◌else◌}
 use Rattle.ballots.specs.Ballot.{max_x, next_x, next_ballot}
 use Rattle.ballots.specs.Boxes.{holds_box, with_box}
 use Rattle.consensus.specs.declared.Head.{Head}
@@ -11,7 +11,6 @@ use Rattle.consensus.specs.declared.Answer.{Answer}
 use Rattle.consensus.specs.declared.Answer.TheVariants.{Quiet, Sends, NotAwaited, AlreadyAgreed, OtherAgreed, NoBallotLeft}
 use Rattle.consensus.specs.declared.Outcome.{Outcome}
 use Rattle.consensus.specs.declared.Outcome.TheVariants.{Becomes, Refused}
-use Rattle.consensus.specs.Choice.{if◌then◌else◌}
 use Rattle.consensus.specs.Room.{promised, accepted_ballot, accepted_value, phase, own_ballot, own_value, best_ballot, lasts, accepts, agreed, idle, collecting, begun, vote, saved, round, room, no_vote, no_round}
 use Rattle.consensus.specs.Enough.{enough_to_collect, enough_to_begin}
 use Rattle.consensus.specs.Events.{propose, collect, last, begin, accept, success, old_round, event}

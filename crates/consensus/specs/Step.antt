@@ -1,13 +1,12 @@
 -- The step on a table: the order of the refusals, and the event's slot written back.
 -- This is what the public step's contract cites, and what runs are made of.
-use Rattle.std.specs.Prelude.{ℕ, zero, suc, Bool, true, not, ◌&&◌, List, leb, ltb, eqb, length}
+use Rattle.std.specs.Prelude.{ℕ, zero, suc, Bool, true, not, ◌&&◌, List, leb, ltb, eqb, length, if◌then◌else◌}
 use Rattle.ballots.specs.Ballot.{max_boxes}
 use Rattle.consensus.specs.declared.Event.{Event}
 use Rattle.consensus.specs.declared.Answer.{Answer}
 use Rattle.consensus.specs.declared.Answer.TheVariants.{Quiet, BadTable, BadEvent, NotWellKept}
 use Rattle.consensus.specs.declared.Outcome.{Outcome}
 use Rattle.consensus.specs.declared.Outcome.TheVariants.{Becomes, Refused}
-use Rattle.consensus.specs.Choice.{if◌then◌else◌}
 use Rattle.consensus.specs.Room.{agreed}
 use Rattle.consensus.specs.Layout.{slots, table_size, head_of, room_at, with_room}
 use Rattle.consensus.specs.WellKept.{saved_kept, well_kept}

@@ -1,10 +1,9 @@
 -- When a slot is well kept, clause by clause as the rules have it.
 -- Cited by the step, which refuses a slot that is not.
-use Rattle.std.specs.Prelude.{ℕ, ◌^◌, Bool, not, ◌&&◌, leb, ltb, eqb}
+use Rattle.std.specs.Prelude.{ℕ, ◌^◌, Bool, not, ◌&&◌, leb, ltb, eqb, if◌then◌else◌}
 use Rattle.ballots.specs.Ballot.{is_ballot, none_or_ballot, maker_of}
 use Rattle.consensus.specs.declared.Head.{Head}
 use Rattle.consensus.specs.declared.Room.{Room}
-use Rattle.consensus.specs.Choice.{if◌then◌else◌}
 use Rattle.consensus.specs.Room.{promised, accepted_ballot, accepted_value, phase, own_ballot, own_value, best_ballot, best_value, lasts, accepts, agreed, idle, collecting, begun}
 use Rattle.consensus.specs.Enough.{enough_to_collect, enough_to_begin}
 

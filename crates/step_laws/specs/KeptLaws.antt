@@ -1,6 +1,6 @@
 -- What each clause of well kept says, as records of facts under readable names, with a lemma each way between test and record.
 -- Relies on the definitions of WellKept. Cited by every proof that a slot stays well kept, which uses the records only.
-use Rattle.std.specs.Prelude.{ℕ, ◌^◌, ◌≤◌, ◌<◌, ◌≡◌, Bool, true, false, cond, not, ◌&&◌, ◌≢◌, eqb}
+use Rattle.std.specs.Prelude.{ℕ, ◌^◌, ◌≤◌, ◌<◌, ◌≡◌, Bool, true, false, cond, not, ◌&&◌, ◌≢◌, eqb, if◌then◌else◌}
 use Rattle.std.proofs.Common.{ap, arith, ltb-true, leb-true, eqb-true, lt-ltb, le-leb, eq-eqb, ne_eqb}
 use Rattle.std.proofs.lemmas.Bool.{eqb-false, not-true}
 use Rattle.ballots.specs.Ballot.{is_ballot, none_or_ballot, maker_of}
@@ -8,7 +8,6 @@ use Rattle.consensus.specs.declared.Head.{Head}
 use Rattle.consensus.specs.declared.Saved.{Saved}
 use Rattle.consensus.specs.declared.Round.{Round}
 use Rattle.consensus.specs.declared.Room.{Room}
-use Rattle.consensus.specs.Choice.{if◌then◌else◌}
 use Rattle.consensus.specs.Room.{promised, accepted_ballot, accepted_value, phase, own_ballot, own_value, best_ballot, best_value, lasts, accepts, agreed, idle, collecting, begun}
 use Rattle.consensus.specs.Enough.{enough_to_collect, enough_to_begin}
 use Rattle.consensus.specs.WellKept.{zero_with, saved_kept, round_kept, idle_kept, running_kept, collecting_kept, begun_kept, phase_kept, well_kept}

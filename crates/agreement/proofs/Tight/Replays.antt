@@ -1,6 +1,6 @@
 -- Runs written as lists of calls and checked by computing, for any step function; and a disagreement, or a promise too high, shown by such a run.
 -- Relies on Runs and Promises. Cited by the Tight files.
-use Rattle.std.specs.Prelude.{ℕ, ◌+◌, ◌≤◌, ◌<◌, ◌≡◌, refl, Bool, false, not, ◌&&◌, ◌||◌, ◌≢◌, ◌⊎◌, leb, ltb, eqb}
+use Rattle.std.specs.Prelude.{ℕ, ◌+◌, ◌≤◌, ◌<◌, ◌≡◌, refl, Bool, false, not, ◌&&◌, ◌||◌, ◌≢◌, ◌⊎◌, leb, ltb, eqb, if◌then◌else◌}
 use Rattle.std.proofs.Math.Bool.{true, and-eq-true_iff}
 use Rattle.std.proofs.lemmas.Bool.{false≢true, eqb-false, not-true}
 use mathlib.Core.List.{List, [], ◌∷◌, ◌++◌, map}
@@ -9,7 +9,6 @@ use Rattle.std.proofs.Math.Logic.{⊎_elim, ⊎_map}
 use Rattle.ballots.specs.Ballot.{max_boxes, x_of}
 use Rattle.consensus.specs.declared.Event.{Event}
 use Rattle.consensus.specs.declared.Message.{Message}
-use Rattle.consensus.specs.Choice.{if◌then◌else◌}
 use Rattle.consensus.specs.Layout.{slots}
 use Rattle.consensus.specs.Events.{propose, collect, last, begin, accept, old_round, restart, event}
 use Rattle.consensus.specs.Answers.{answer_number}

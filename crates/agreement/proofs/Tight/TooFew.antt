@@ -1,14 +1,13 @@
 -- Told of too few boxes, two groups without a common box agree on two values. Every count that is too low, for every number of boxes, by one table
 -- of runs that computes. Relies on Replays. Cited by Tight.
 use Prim.Native.Nat.{ℕ, zero, suc, ◌+◌, ◌*◌, ◌/◌, ◌<◌}
-use Rattle.std.specs.Prelude.{◌≡◌, Bool, true, ◌&&◌, List, [], ◌∷◌, ◌++◌, eqb}
+use Rattle.std.specs.Prelude.{◌≡◌, Bool, true, ◌&&◌, List, [], ◌∷◌, ◌++◌, eqb, if◌then◌else◌}
 use Rattle.std.proofs.Math.Path.{refl, subst, subst⁻¹, fun_ext}
 use Rattle.std.proofs.Common.{sym, ap, arith, eqb-true}
 use Rattle.std.proofs.Math.Bool.{and-eq-true_iff}
 use Rattle.std.proofs.Math.Decide.{ℕ_discrete}
 use Rattle.ballots.specs.Ballot.{max_boxes}
 use Rattle.ballots.specs.Boxes.{smallest_majority}
-use Rattle.consensus.specs.Choice.{if◌then◌else◌}
 use Rattle.step_laws.specs.ByTest.{by_test}
 use Rattle.agreement.specs.Promises.{Count, Promises}
 use Rattle.agreement.specs.Tight.Impostors.{invents_count}

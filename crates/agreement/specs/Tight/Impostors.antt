@@ -1,6 +1,6 @@
 -- Step functions that are wrong in one place each, under the sentence of the rules that they break.
 -- Each is the rules' own definition but for that place. Cited by the Tight files, which show that none keeps the promises.
-use Rattle.std.specs.Prelude.{ℕ, zero, suc, ◌+◌, ◌*◌, ◌-◌, max, Bool, not, ◌&&◌, ◌||◌, List, ltb, eqb, get_or}
+use Rattle.std.specs.Prelude.{ℕ, zero, suc, ◌+◌, ◌*◌, ◌-◌, max, Bool, not, ◌&&◌, ◌||◌, List, ltb, eqb, get_or, if◌then◌else◌}
 use Rattle.std.specs.Int.Count.{ones}
 use Rattle.ballots.specs.Ballot.{max_boxes, max_x, is_ballot, none_or_ballot}
 use Rattle.ballots.specs.Boxes.{holds_box, is_majority, with_box}
@@ -12,7 +12,6 @@ use Rattle.consensus.specs.declared.Answer.{Answer}
 use Rattle.consensus.specs.declared.Answer.TheVariants.{Quiet, Sends, BadTable, BadEvent, NotWellKept}
 use Rattle.consensus.specs.declared.Outcome.{Outcome}
 use Rattle.consensus.specs.declared.Outcome.TheVariants.{Becomes, Refused}
-use Rattle.consensus.specs.Choice.{if◌then◌else◌}
 use Rattle.consensus.specs.Room.{promised, own_ballot, own_value, accepts, agreed, saved, room}
 use Rattle.consensus.specs.Layout.{slots, head_of, room_at, with_room}
 use Rattle.consensus.specs.Enough.{enough_to_collect, enough_to_begin}

@@ -1,6 +1,6 @@
 -- "Taking the value most boxes sent instead of the one with the highest ballot", as a step function that keeps every report and counts them.
 -- It is the rules' own definition but for that. Cited by Votes, which shows that it does not keep the promises.
-use Rattle.std.specs.Prelude.{ℕ, zero, suc, ◌+◌, ◌*◌, ◌/◌, ◌%◌, ◌^◌, max, not, ltb, eqb}
+use Rattle.std.specs.Prelude.{ℕ, zero, suc, ◌+◌, ◌*◌, ◌/◌, ◌%◌, ◌^◌, max, not, ltb, eqb, if◌then◌else◌}
 use mathlib.Core.List.{List, [], ◌∷◌, foldl}
 use Rattle.ballots.specs.Ballot.{max_boxes}
 use Rattle.ballots.specs.Boxes.{with_box}
@@ -11,7 +11,6 @@ use Rattle.consensus.specs.declared.Event.{Event}
 use Rattle.consensus.specs.declared.Answer.TheVariants.{Quiet, NotAwaited}
 use Rattle.consensus.specs.declared.Outcome.{Outcome}
 use Rattle.consensus.specs.declared.Outcome.TheVariants.{Becomes, Refused}
-use Rattle.consensus.specs.Choice.{if◌then◌else◌}
 use Rattle.consensus.specs.Room.{best_ballot, best_value, lasts, collecting, own_value, vote}
 use Rattle.consensus.specs.Enough.{enough_to_collect}
 use Rattle.consensus.specs.Events.{last}

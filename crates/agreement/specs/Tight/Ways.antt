@@ -1,13 +1,12 @@
 -- What a call of the step with another slot rule comes to: a refusal, every slot restarted, or the event's slot settled by that rule.
 -- Relies on the ways of a call, in which the slot rule has no part. Cited by Tight.
-use Rattle.std.specs.Prelude.{ℕ, ◌≡◌, true, not, List, eqb}
+use Rattle.std.specs.Prelude.{ℕ, ◌≡◌, true, not, List, eqb, if◌then◌else◌}
 use Rattle.std.proofs.Math.Path.{refl}
 use Rattle.std.proofs.Common.{◌∙◌}
 use borrow.Author.Tests.{eq-eqb, ne_eqb}
 use Rattle.consensus.specs.declared.Event.{Event}
 use Rattle.consensus.specs.declared.Answer.{Answer}
 use Rattle.consensus.specs.declared.Answer.TheVariants.{Quiet, BadTable, BadEvent, NotWellKept}
-use Rattle.consensus.specs.Choice.{if◌then◌else◌}
 use Rattle.consensus.specs.Layout.{slots, head_of, room_at}
 use Rattle.consensus.specs.WellKept.{well_kept}
 use Rattle.consensus.specs.Events.{restart, event_ok}
