@@ -1,5 +1,5 @@
 -- Laws of the board: which answers occur and when, and what a command can change.
--- Relies on Board. Cited by the proofs of the functions, by PrefixLaws and OwnerLaws, and by whoever promises something of the board.
+-- Relies on Board. Cited by PrefixLaws, OwnerLaws and BoardRuns, and by whoever promises something of the board.
 use Rattle.std.specs.Prelude.{ℕ, ◌+◌, ◌≤◌, ◌<◌, ◌≡◌, refl, Bool, true, false, not, List, ◌↔◌, ◌⊎◌, ltb, get_or, if◌then◌else◌}
 use Rattle.std.proofs.Common.{sym, ap, ◌∙◌, true≢false, inl, inr, arith, lt_of_not-le}
 use Rattle.std.proofs.lemmas.Bool.{false≢true}

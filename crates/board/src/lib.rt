@@ -1,5 +1,7 @@
 // The board: for a link, its owner, its revision and its map ticket, as the agreed commands of a box's table have made them.
 // Relies on specs/, and of the box below on the contracts of `table_ok` and `agreed_at` alone.
+#![tactic(auto)]
+
 ghost use Rattle.std.specs.Prelude.{◌≡◌, if◌then◌else◌};
 ghost use Rattle.board.specs.Command.{command_of};
 ghost use Rattle.board.specs.Board.{claimed, revised, applied, known_prefix, entry_of, board_of};
@@ -21,7 +23,7 @@ const LAST_LINK: u64 = 255;
 const LAST_REVISION: u64 = 255;
 
 // The four parts of a value.
-#[derive(Drop)]
+#[derive(Clone, Copy)]
 pub struct Command {
     pub author: u64,
     pub link: u64,
@@ -30,7 +32,7 @@ pub struct Command {
 }
 
 // What the board says of a link; three zeros when it is free.
-#[derive(Drop)]
+#[derive(Clone, Copy)]
 pub struct Entry {
     pub owner: u64,
     pub revision: u64,
@@ -38,7 +40,7 @@ pub struct Entry {
 }
 
 // What the board answers; `numbers_of` gives the rules' number and the entry's three for each case.
-#[derive(Drop)]
+#[derive(Clone, Copy)]
 pub enum BoardAnswer {
     Link(Entry),
     BadTable,
@@ -58,6 +60,7 @@ pub fn command_of(value: u64) -> Command
 }
 
 // A free link: revision 0 makes the author its owner.
+#[tactic(auto, unfolding(crate::specs::Board::claimed))]
 fn claimed(entry: Entry, command: Command) -> Entry
     ensures { result ≡ claimed entry command }
 {
@@ -72,6 +75,7 @@ fn claimed(entry: Entry, command: Command) -> Entry
 }
 
 // An owned link: the owner, naming its present revision, sets the ticket.
+#[tactic(auto, unfolding(crate::specs::Board::revised))]
 fn revised(entry: Entry, command: Command) -> Entry
     ensures { result ≡ revised entry command }
 {
@@ -92,6 +96,7 @@ fn revised(entry: Entry, command: Command) -> Entry
 }
 
 // What one command does to the entry of one link.
+#[tactic(auto, unfolding(crate::specs::Board::obeyed))]
 pub fn applied(entry: Entry, link: u64, value: u64) -> Entry
     ensures { result ≡ applied entry link value }
 {
@@ -119,6 +124,7 @@ fn after_slot(known: bool, entry: Entry, link: u64, value: u64) -> Entry
 }
 
 // The entry of a link: the commands of the known prefix, in slot order, from a free link on.
+#[tactic(auto, using(crate::proofs::Walk::walk_starts, crate::proofs::Walk::slot_walked, crate::proofs::Walk::walk_ends))]
 fn entry_of(table: &[u64], link: u64) -> Entry
     ensures { result ≡ entry_of (known_prefix table.now) link }
 {
@@ -139,6 +145,7 @@ fn entry_of(table: &[u64], link: u64) -> Entry
 }
 
 // What the board says of a link.
+#[tactic(auto, unfolding(crate::specs::Board::board_of))]
 pub fn board(table: &[u64], link: u64) -> BoardAnswer
     ensures { result ≡ board_of table.now link }
 {
