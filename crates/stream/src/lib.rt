@@ -65,6 +65,7 @@ fn ended(left: usize) -> Line
 }
 
 // The length of the line at `from`, if its newline is among the next `most` bytes up to `to`, or 0.
+#[tactic(auto, using(calls::specs::FirstLineLaws::line_within_bytes))]
 fn line_within(input: &[u8], from: usize, to: usize, most: usize) -> usize
     requires { (from ≤ to) × (to ≤ length input.now) }
     ensures { from + result ≤ to }
