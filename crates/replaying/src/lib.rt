@@ -29,6 +29,7 @@ pub fn replay_input(source: &mut impl Read, sink: &mut impl Write) -> io::Result
 }
 
 // The header, and then the records.
+#[tactic(auto, using(calls::specs::HeaderLaws::boxes_at_most_seven))]
 fn replay(
     source: &mut impl Read,
     sink: &mut impl Write,
@@ -61,6 +62,7 @@ fn replay(
 
 // The records behind the header, to the end of the input or the first bad line. Nothing says that the input ends, so the lines
 // are counted down from a number that no run uses up.
+#[tactic(auto, using(calls::specs::CallLaws::length_within))]
 fn records(
     source: &mut impl Read,
     sink: &mut impl Write,
