@@ -7,6 +7,7 @@ use std::io::Write;
 
 // Puts a line of numbers behind the first `used` bytes, and gives how many bytes are still to be written.
 // An error is that of a write: the buffer then has the line, and how much of it went out is not known.
+#[tactic(auto, using(lines::specs::WriteLaws::written_within))]
 pub fn put(sink: &mut impl Write, numbers: &[u64], out: &mut [u8], used: usize) -> io::Result<usize>
     ensures within { IfOk result (λ left. left ≤ length out.old) }
 {
