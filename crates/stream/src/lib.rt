@@ -2,8 +2,10 @@
 // Relies on calls for the end of a line and for the line of a bad line. The programs lend the buffers, and what they read from and write to.
 #![tactic(auto)]
 
-ghost use Rattle.std.specs.Prelude.{◌+◌, ◌≤◌, length, IfOk};
+ghost use Rattle.std.specs.Prelude.{◌≡◌, ◌+◌, ◌-◌, ◌<◌, ◌≤◌, ◌++◌, length, take, IfOk, OnOk};
+ghost use Rattle.std.specs.Io.KnownBytes.{Appends};
 ghost use Rattle.stream.specs.Places.{PlacedIn};
+ghost use Rattle.stream.specs.StopLine.{stop_line};
 
 use std::io;
 use std::io::{Read, Write};
@@ -99,8 +101,11 @@ fn more(source: &mut impl Read, input: &mut [u8], have: usize) -> io::Result<usi
 }
 
 // Writes out the first `used` bytes where little room is left, and gives how many are still to be written.
-pub fn make_room(sink: &mut impl Write, out: &[u8], used: usize) -> io::Result<usize>
+// An error is that of a write: some of the bytes may have gone out.
+pub fn make_room<W: Write>(sink: &mut W, out: &[u8], used: usize) -> io::Result<usize>
     ensures within { IfOk result (λ left. left ≤ length out.now) }
+    ensures whole { IfOk result (λ left. 0 < left → left ≡ used) }
+    ensures written { IfOk result (λ left. used ≤ length out.now → Appends (W.contents sink.old) (W.contents sink.new) (take (used - left) out.now)) }
 {
     if out.len() < used {
         return Ok(0);
@@ -112,16 +117,21 @@ pub fn make_room(sink: &mut impl Write, out: &[u8], used: usize) -> io::Result<u
     Ok(0)
 }
 
-// Writes out the first `used` bytes.
-pub fn flush(sink: &mut impl Write, out: &[u8], used: usize) -> io::Result<()> {
+// Writes out the first `used` bytes. An error is that of a write: some of them may have gone out.
+pub fn flush<W: Write>(sink: &mut W, out: &[u8], used: usize) -> io::Result<()>
+    ensures written { OnOk result (used ≤ length out.now → Appends (W.contents sink.old) (W.contents sink.new) (take used out.now)) }
+{
     if used <= out.len() {
         sink.write_all(&out[0..used])?;
     }
     Ok(())
 }
 
-// Writes out the first `used` bytes, and that the line of this number is bad.
-pub fn stop_at(sink: &mut impl Write, number: u64, out: &mut [u8], used: usize) -> io::Result<()> {
+// Writes out the first `used` bytes, and that the line of this number is bad. An error is that of a write: some of them may have gone out.
+#[tactic(auto, using(lines::specs::WriteLaws::written_within))]
+pub fn stop_at<W: Write>(sink: &mut W, number: u64, out: &mut [u8], used: usize) -> io::Result<()>
+    ensures written { OnOk result (used ≤ length out.old → Appends (W.contents sink.old) (W.contents sink.new) (take used out.old ++ stop_line number out.old)) }
+{
     flush(sink, out, used)?;
     let written = calls::bad_line(number, out);
     flush(sink, out, written.length)
