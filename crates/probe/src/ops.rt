@@ -6,6 +6,8 @@ use super::put::{digest, digest_of_bytes, put};
 use ballots::{Ballot, Slot};
 use board::BoardAnswer;
 use consensus::Event;
+use std::io;
+use std::io::Write;
 
 const MAKE_TABLE: u64 = 0;
 
@@ -24,7 +26,7 @@ const WRITE: u64 = 6;
 const NO_OPERATION: u64 = 2;
 
 // How many numbers the table has, and how many bytes of output are to be written.
-#[derive(Drop)]
+#[derive(Clone, Copy)]
 pub struct State {
     pub length: usize,
     pub used: usize,
@@ -32,58 +34,60 @@ pub struct State {
 
 // One operation: the first three change the state, the others answer with a line.
 pub fn operate(
+    sink: &mut impl Write,
     numbers: [u64; 7],
     table: &mut [u64],
     bytes: &mut [u8],
     out: &mut [u8],
     state: State,
-) -> State {
+) -> io::Result<State> {
     let operation = numbers[0];
     let length = least(state.length, table.len());
     let used = state.used;
     if operation == MAKE_TABLE {
-        return State {
+        return Ok(State {
             length: make_table(numbers[1], numbers[2], numbers[3], table),
             used,
-        };
+        });
     }
     if operation == SET_NUMBER {
         set_number(numbers[1], numbers[2], &mut table[0..length]);
-        return State { length, used };
+        return Ok(State { length, used });
     }
     if operation == SET_BYTES {
         set_bytes(numbers, bytes);
-        return State { length, used };
+        return Ok(State { length, used });
     }
-    State {
+    Ok(State {
         length,
-        used: answer(numbers, &mut table[0..length], bytes, out, used),
-    }
+        used: answer(sink, numbers, &mut table[0..length], bytes, out, used)?,
+    })
 }
 
 // An operation that answers with a line.
 fn answer(
+    sink: &mut impl Write,
     numbers: [u64; 7],
     table: &mut [u64],
     bytes: &mut [u8],
     out: &mut [u8],
     used: usize,
-) -> usize {
+) -> io::Result<usize> {
     let operation = numbers[0];
     if operation == STEP {
-        return step(numbers, table, out, used);
+        return step(sink, numbers, table, out, used);
     }
     if operation == BOARD {
-        return put(&entry(table, numbers[1]), out, used);
+        return put(sink, &entry(table, numbers[1]), out, used);
     }
     let length = least_of(numbers[1], bytes.len());
     if operation == READ {
-        return read(&bytes[0..length], out, used);
+        return read(sink, &bytes[0..length], out, used);
     }
     if operation == WRITE {
-        return write(table, bytes, length, out, used);
+        return write(sink, table, bytes, length, out, used);
     }
-    put(&[NO_OPERATION], out, used)
+    put(sink, &[NO_OPERATION], out, used)
 }
 
 fn least(a: usize, b: usize) -> usize
@@ -139,7 +143,13 @@ fn set_byte(at: usize, value: u64, bytes: &mut [u8]) {
 }
 
 // The step on the table: the answer's eight numbers and the table's digest.
-fn step(numbers: [u64; 7], table: &mut [u64], out: &mut [u8], used: usize) -> usize {
+fn step(
+    sink: &mut impl Write,
+    numbers: [u64; 7],
+    table: &mut [u64],
+    out: &mut [u8],
+    used: usize,
+) -> io::Result<usize> {
     let event = Event {
         kind: numbers[1],
         slot: Slot(numbers[2]),
@@ -151,6 +161,7 @@ fn step(numbers: [u64; 7], table: &mut [u64], out: &mut [u8], used: usize) -> us
     let a = calls::numbers_of(consensus::step(table, event));
     let after = digest(table);
     put(
+        sink,
         &[a[0], a[1], a[2], a[3], a[4], a[5], a[6], a[7], after],
         out,
         used,
@@ -167,10 +178,11 @@ fn entry(table: &[u64], link: u64) -> [u64; 4] {
 }
 
 // The buffer's front read as one line: the answer and the seven numbers.
-fn read(line: &[u8], out: &mut [u8], used: usize) -> usize {
+fn read(sink: &mut impl Write, line: &[u8], out: &mut [u8], used: usize) -> io::Result<usize> {
     let reading = lines::read_record(line);
     let n = reading.numbers;
     put(
+        sink,
         &[reading.answer, n[0], n[1], n[2], n[3], n[4], n[5], n[6]],
         out,
         used,
@@ -178,7 +190,14 @@ fn read(line: &[u8], out: &mut [u8], used: usize) -> usize {
 }
 
 // The table's first seven numbers written to the buffer's front: the answer, the length and the buffer's digest.
-fn write(table: &[u64], bytes: &mut [u8], count: usize, out: &mut [u8], used: usize) -> usize
+fn write(
+    sink: &mut impl Write,
+    table: &[u64],
+    bytes: &mut [u8],
+    count: usize,
+    out: &mut [u8],
+    used: usize,
+) -> io::Result<usize>
     requires { count ≤ length bytes.old }
 {
     let record = [
@@ -192,6 +211,7 @@ fn write(table: &[u64], bytes: &mut [u8], count: usize, out: &mut [u8], used: us
     ];
     let written = lines::write_record(record, &mut bytes[0..count]);
     put(
+        sink,
         &[
             written.answer,
             written.length as u64,

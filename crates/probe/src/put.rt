@@ -1,16 +1,21 @@
 // Lines of numbers into the output, and the digest that stands for a list of them.
 // Relies on lines and stream. Cited by the operations.
-ghost use Rattle.std.specs.Prelude.{◌≤◌, length};
+ghost use Rattle.std.specs.Prelude.{◌≤◌, length, IfOk};
+
+use std::io;
+use std::io::Write;
 
 // Puts a line of numbers behind the first `used` bytes, and gives how many bytes are still to be written.
-pub fn put(numbers: &[u64], out: &mut [u8], used: usize) -> usize
-    ensures { result ≤ length out.old }
+// An error is that of a write: the buffer then has the line, and how much of it went out is not known.
+#[tactic(auto, using(lines::specs::WriteLaws::written_within))]
+pub fn put(sink: &mut impl Write, numbers: &[u64], out: &mut [u8], used: usize) -> io::Result<usize>
+    ensures within { IfOk result (λ left. left ≤ length out.old) }
 {
     if out.len() < used {
-        return 0;
+        return Ok(0);
     }
     let written = lines::write_numbers(numbers, &mut out[used..]);
-    stream::make_room(out, used + written.length)
+    stream::make_room(sink, out, used + written.length)
 }
 
 // The digest with one more number.

@@ -1,16 +1,21 @@
-// Standard input line by line and standard output by the buffer, both of any length, in constant memory.
-// Relies on calls for the end of a line and for the line of a bad line. The programs lend the buffers.
-ghost use Rattle.std.specs.Prelude.{◌+◌, ◌≤◌, length};
-ghost use Rattle.stream.specs.Places.{PlacedIn};
+// Input line by line and output by the buffer, both of any length, in constant memory.
+// Relies on calls for the end of a line and for the line of a bad line. The programs lend the buffers, and what they read from and write to.
+#![tactic(auto)]
 
-use libc::{STDIN_FILENO, STDOUT_FILENO};
+ghost use Rattle.std.specs.Prelude.{◌≡◌, ◌+◌, ◌-◌, ◌<◌, ◌≤◌, ◌++◌, length, take, IfOk, OnOk};
+ghost use Rattle.std.specs.Io.KnownBytes.{Appends};
+ghost use Rattle.stream.specs.Places.{PlacedIn};
+ghost use Rattle.stream.specs.StopLine.{stop_line};
+
+use std::io;
+use std::io::{Read, Write};
 
 // Output is written out when there is less room than this: no line of a program's output is longer.
 const ROOM: usize = 256;
 
 // The next line: it stands from the first place up to the second, and the bytes read so far end at the third.
 // Or the line is bad: too long, or the input ends in it. Or the input has ended.
-#[derive(Drop)]
+#[derive(Clone, Copy)]
 pub enum Line {
     At(usize, usize, usize),
     Bad,
@@ -18,31 +23,38 @@ pub enum Line {
 }
 
 // The line that starts at `at`, where the bytes read so far end at `end`: of at most `most` bytes. More is read where its newline is not there.
-pub fn next_line(input: &mut [u8], at: usize, end: usize, most: usize) -> Line
-    ensures { PlacedIn (length input.old) result }
+// An error is that of a read. The bytes that were read then still stand in the buffer, but no longer from `at` on: the lines cannot go on.
+pub fn next_line(
+    source: &mut impl Read,
+    input: &mut [u8],
+    at: usize,
+    end: usize,
+    most: usize,
+) -> io::Result<Line>
+    ensures placed { IfOk result (PlacedIn (length input.old)) }
 {
     let mut from = at;
     let mut to = end;
     if input.len() < to {
-        return Line::Bad;
+        return Ok(Line::Bad);
     }
     if to < from {
-        return Line::Bad;
+        return Ok(Line::Bad);
     }
     loop {
         let length = line_within(input, from, to, most);
         if 0 < length {
-            return Line::At(from, from + length, to);
+            return Ok(Line::At(from, from + length, to));
         }
         let kept = to - from;
         if most <= kept {
-            return Line::Bad;
+            return Ok(Line::Bad);
         }
         slide(input, from, to);
         from = 0;
-        to = more(input, kept);
+        to = more(source, input, kept)?;
         if to <= kept {
-            return ended(kept);
+            return Ok(ended(kept));
         }
     }
 }
@@ -55,6 +67,7 @@ fn ended(left: usize) -> Line
 }
 
 // The length of the line at `from`, if its newline is among the next `most` bytes up to `to`, or 0.
+#[tactic(auto, using(calls::specs::FirstLineLaws::line_within_bytes))]
 fn line_within(input: &[u8], from: usize, to: usize, most: usize) -> usize
     requires { (from ≤ to) × (to ≤ length input.now) }
     ensures { from + result ≤ to }
@@ -78,39 +91,48 @@ fn slide(input: &mut [u8], from: usize, to: usize)
 }
 
 // Reads once, behind the first `have` bytes, and gives how many there are then.
-fn more(input: &mut [u8], have: usize) -> usize
+fn more(source: &mut impl Read, input: &mut [u8], have: usize) -> io::Result<usize>
     requires { have ≤ length input.old }
-    ensures { (have ≤ result) × (result ≤ length input.old) }
+    ensures within { IfOk result (λ n. (have ≤ n) × (n ≤ length input.old)) }
 {
     let space = &mut input[have..];
-    let got = libc::read(STDIN_FILENO, space);
-    have + io::count(got, space)
+    let got = source.read(space)?;
+    Ok(have + got)
 }
 
 // Writes out the first `used` bytes where little room is left, and gives how many are still to be written.
-pub fn make_room(out: &[u8], used: usize) -> usize
-    ensures { result ≤ length out.now }
+// An error is that of a write: some of the bytes may have gone out.
+pub fn make_room<W: Write>(sink: &mut W, out: &[u8], used: usize) -> io::Result<usize>
+    ensures within { IfOk result (λ left. left ≤ length out.now) }
+    ensures whole { IfOk result (λ left. 0 < left → left ≡ used) }
+    ensures written { IfOk result (λ left. used ≤ length out.now → Appends (W.contents sink.old) (W.contents sink.new) (take (used - left) out.now)) }
 {
     if out.len() < used {
-        return 0;
+        return Ok(0);
     }
     if ROOM <= out.len() - used {
-        return used;
+        return Ok(used);
     }
-    io::write_all(STDOUT_FILENO, &out[0..used]);
-    0
+    sink.write_all(&out[0..used])?;
+    Ok(0)
 }
 
-// Writes out the first `used` bytes.
-pub fn flush(out: &[u8], used: usize) {
+// Writes out the first `used` bytes. An error is that of a write: some of them may have gone out.
+pub fn flush<W: Write>(sink: &mut W, out: &[u8], used: usize) -> io::Result<()>
+    ensures written { OnOk result (used ≤ length out.now → Appends (W.contents sink.old) (W.contents sink.new) (take used out.now)) }
+{
     if used <= out.len() {
-        io::write_all(STDOUT_FILENO, &out[0..used]);
+        sink.write_all(&out[0..used])?;
     }
+    Ok(())
 }
 
-// Writes out the first `used` bytes, and that the line of this number is bad.
-pub fn stop_at(number: u64, out: &mut [u8], used: usize) {
-    flush(out, used);
+// Writes out the first `used` bytes, and that the line of this number is bad. An error is that of a write: some of them may have gone out.
+#[tactic(auto, using(lines::specs::WriteLaws::written_within))]
+pub fn stop_at<W: Write>(sink: &mut W, number: u64, out: &mut [u8], used: usize) -> io::Result<()>
+    ensures written { OnOk result (used ≤ length out.old → Appends (W.contents sink.old) (W.contents sink.new) (take used out.old ++ stop_line number out.old)) }
+{
+    flush(sink, out, used)?;
     let written = calls::bad_line(number, out);
-    flush(out, written.length);
+    flush(sink, out, written.length)
 }

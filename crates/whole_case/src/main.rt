@@ -1,4 +1,8 @@
 // The replay program once more, run on the rules' whole case.
-fn main() {
-    replaying::replay_input();
+#![tactic(auto)]
+
+use std::io;
+
+fn main(rt: HostRuntime) -> io::Result<()> {
+    replaying::replay_input(&mut rt.stdin(), &mut rt.stdout())
 }
