@@ -8,11 +8,9 @@ turns=${2:-9}
 room=$(mktemp -d)
 trap 'rm -rf "$room"' EXIT
 
-[ -x target/bin/replay ] || rt check replay >&2
+(cd crates/replay && rt run </dev/null >/dev/null)
 cargo build --release --quiet --manifest-path second/Cargo.toml
 second=$PWD/second/target/release/second
-kit=$(dirname "$(dirname "$(rt doc)")")
-tools=$kit/on/$(uname -m)/toolchain
 emulator=
 if [ "$(uname -m)" != x86_64 ]; then
     # Debian's packages: qemu-user gcc-x86-64-linux-gnu libc6-dev:amd64 libgcc-s1:amd64 rustc libstd-rust-dev:amd64
@@ -26,7 +24,7 @@ fi
 
 "$second" runs 42 5 "$records" >"$room/log"
 for _ in $(seq "$turns"); do
-    /usr/bin/time -a -o "$room/ours" -f %U $emulator "$tools/lib/ld-linux-x86-64.so.2" --library-path "$tools/lib" target/bin/replay <"$room/log" >"$room/ours.out"
+    /usr/bin/time -a -o "$room/ours" -f %U $emulator crates/replay/out/replay <"$room/log" >"$room/ours.out"
     /usr/bin/time -a -o "$room/theirs" -f %U $emulator "$room/second" replay <"$room/log" >"$room/theirs.out"
     cmp "$room/ours.out" "$room/theirs.out"
 done
