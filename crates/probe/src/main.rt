@@ -35,7 +35,7 @@ fn main(rt: HostRuntime) -> io::Result<()> {
 }
 
 // The operations, to the end of the input or the first bad line. Nothing says that the input ends, so the lines are counted
-// down from a number that no run uses up.
+// down from a number that no run uses up. Before the error of a failed read goes up, the answers so far go out.
 fn probe(
     source: &mut impl Read,
     sink: &mut impl Write,
@@ -51,7 +51,14 @@ fn probe(
     while 0 < left {
         left -= 1;
         let number = u64::MAX - left;
-        match stream::next_line(source, input, at, stop, LONGEST_RECORD)? {
+        let line = match stream::next_line(source, input, at, stop, LONGEST_RECORD) {
+            Ok(line) => line,
+            Err(error) => {
+                stream::flush(sink, out, state.used)?;
+                return Err(error);
+            }
+        };
+        match line {
             Line::None => {
                 return stream::flush(sink, out, state.used);
             }

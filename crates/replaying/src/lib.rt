@@ -61,7 +61,7 @@ fn replay(
 }
 
 // The records behind the header, to the end of the input or the first bad line. Nothing says that the input ends, so the lines
-// are counted down from a number that no run uses up.
+// are counted down from a number that no run uses up. Before the error of a failed read goes up, the answers so far go out.
 #[tactic(auto, using(calls::specs::CallLaws::length_within))]
 fn records(
     source: &mut impl Read,
@@ -80,7 +80,14 @@ fn records(
     while 1 < left {
         left -= 1;
         let number = u64::MAX - left + 1;
-        match stream::next_line(source, input, at, stop, LONGEST_RECORD)? {
+        let line = match stream::next_line(source, input, at, stop, LONGEST_RECORD) {
+            Ok(line) => line,
+            Err(error) => {
+                stream::flush(sink, out, used)?;
+                return Err(error);
+            }
+        };
+        match line {
             Line::None => {
                 return stream::flush(sink, out, used);
             }

@@ -6,6 +6,7 @@ ghost use Rattle.std.specs.Prelude.{◌≡◌, ◌+◌, ◌-◌, ◌<◌, ◌≤
 ghost use Rattle.std.specs.Io.KnownBytes.{Appends};
 ghost use Rattle.stream.specs.Places.{PlacedIn};
 ghost use Rattle.stream.specs.StopLine.{stop_line};
+ghost use Rattle.stream.specs.declared.TheConstants.{ROOM};
 
 use std::io;
 use std::io::{Read, Write};
@@ -104,6 +105,7 @@ fn more(source: &mut impl Read, input: &mut [u8], have: usize) -> io::Result<usi
 // An error is that of a write: some of the bytes may have gone out.
 pub fn make_room<W: Write>(sink: &mut W, out: &[u8], used: usize) -> io::Result<usize>
     ensures within { IfOk result (λ left. left ≤ length out.now) }
+    ensures room { IfOk result (λ left. ROOM ≤ length out.now → left + ROOM ≤ length out.now) }
     ensures whole { IfOk result (λ left. 0 < left → left ≡ used) }
     ensures written { IfOk result (λ left. used ≤ length out.now → Appends (W.contents sink.old) (W.contents sink.new) (take (used - left) out.now)) }
 {
