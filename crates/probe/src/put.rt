@@ -1,6 +1,6 @@
 // Lines of numbers into the output, and the digest that stands for a list of them.
 // Relies on lines and stream. Cited by the operations.
-ghost use Rattle.std.specs.Prelude.{◌≤◌, length, IfOk};
+ghost use Rattle.std.specs.Prelude.{◌≡◌, ◌≤◌, length, IfOk, OnErr};
 
 use std::io;
 use std::io::Write;
@@ -10,6 +10,7 @@ use std::io::Write;
 #[tactic(auto, using(lines::specs::WriteLaws::written_within))]
 pub fn put(sink: &mut impl Write, numbers: &[u64], out: &mut [u8], used: usize) -> io::Result<usize>
     ensures within { IfOk result (λ left. left ≤ length out.old) }
+    ensures err { OnErr result (length out.new ≡ length out.old) }
 {
     if out.len() < used {
         return Ok(0);

@@ -2,7 +2,7 @@
 // Relies on calls for the end of a line and for the line of a bad line. The programs lend the buffers, and what they read from and write to.
 #![tactic(auto)]
 
-ghost use Rattle.std.specs.Prelude.{◌≡◌, ◌+◌, ◌-◌, ◌<◌, ◌≤◌, ◌++◌, length, take, IfOk, OnOk};
+ghost use Rattle.std.specs.Prelude.{◌≡◌, ◌+◌, ◌-◌, ◌<◌, ◌≤◌, ◌++◌, length, take, IfOk, OnOk, OnErr};
 ghost use Rattle.std.specs.Io.KnownBytes.{Appends};
 ghost use Rattle.stream.specs.Places.{PlacedIn};
 ghost use Rattle.stream.specs.StopLine.{stop_line};
@@ -33,6 +33,7 @@ pub fn next_line(
     most: usize,
 ) -> io::Result<Line>
     ensures placed { IfOk result (PlacedIn (length input.old)) }
+    ensures err { OnErr result (length input.new ≡ length input.old) }
 {
     let mut from = at;
     let mut to = end;
@@ -133,6 +134,7 @@ pub fn flush<W: Write>(sink: &mut W, out: &[u8], used: usize) -> io::Result<()>
 #[tactic(auto, using(lines::specs::WriteLaws::written_within))]
 pub fn stop_at<W: Write>(sink: &mut W, number: u64, out: &mut [u8], used: usize) -> io::Result<()>
     ensures written { OnOk result (used ≤ length out.old → Appends (W.contents sink.old) (W.contents sink.new) (take used out.old ++ stop_line number out.old)) }
+    ensures err { OnErr result (length out.new ≡ length out.old) }
 {
     flush(sink, out, used)?;
     let written = calls::bad_line(number, out);
