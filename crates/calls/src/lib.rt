@@ -39,6 +39,7 @@ pub struct Called {
 }
 
 // How many boxes a header names, or 0 where the line is no header.
+#[tactic(auto, using(crate::specs::HeaderLaws::header_parts), unfolding(crate::specs::Header::boxes_of))]
 pub fn boxes_of(line: &[u8]) -> u64
     ensures { result ≡ boxes_of line.now }
 {
@@ -49,6 +50,7 @@ pub fn boxes_of(line: &[u8]) -> u64
 }
 
 // The length of the first line of some bytes, its newline included, or 0 where there is no newline.
+#[tactic(auto, using(crate::proofs::Sets::line_length))]
 pub fn line_length(bytes: &[u8]) -> usize
     ensures { result ≡ line_length bytes.now }
 {
@@ -63,6 +65,7 @@ pub fn line_length(bytes: &[u8]) -> usize
 }
 
 // Makes the tables fresh, in a place that has room for just those of 1 to 7 boxes.
+#[tactic(auto, using(crate::proofs::Sets::fresh_tables), unfolding(crate::specs::Tables::fresh_tables))]
 pub fn fresh_tables(boxes: u64, tables: &mut [u64])
     ensures { tables.new ≡ fresh_tables boxes tables.old }
 {
@@ -79,6 +82,7 @@ pub fn fresh_tables(boxes: u64, tables: &mut [u64])
 }
 
 // One line of a replay: a record's event at its box, and the answer's line at the front of the buffer.
+#[tactic(auto, using(crate::proofs::Sets::call))]
 pub fn call(line: &[u8], boxes: u64, tables: &mut [u64], out: &mut [u8]) -> Called
     ensures called { result ≡ (call line.now boxes tables.old out.old).called }
     ensures tables { tables.new ≡ (call line.now boxes tables.old out.old).tables }
@@ -146,6 +150,7 @@ fn sent(message: Message) -> [u64; 8]
 }
 
 // Whether a line is a header.
+#[tactic(auto, unfolding(crate::specs::Header::is_header, crate::specs::Header::says_boxes))]
 fn is_header(line: &[u8]) -> bool
     ensures { result ≡ is_header line.now }
 {
@@ -162,6 +167,7 @@ fn is_header(line: &[u8]) -> bool
 }
 
 // 1 to 7 boxes, and a table for each.
+#[tactic(auto, unfolding(crate::specs::Tables::tables_ok))]
 fn tables_ok(boxes: u64, tables: &[u64]) -> bool
     ensures { result ≡ tables_ok boxes tables.now }
 {
@@ -175,6 +181,7 @@ fn tables_ok(boxes: u64, tables: &[u64]) -> bool
 }
 
 // Makes one box's table fresh.
+#[tactic(auto, using(crate::proofs::Sets::fresh_table))]
 fn fresh_table(boxes: u64, index: u64, table: &mut [u64])
     requires { length table.old ≡ table_size }
     ensures { table.new ≡ fresh boxes index }
@@ -210,6 +217,7 @@ fn event_of(numbers: [u64; 7]) -> Event
 }
 
 // A record's event at its box, where there is such a box.
+#[tactic(auto, using(crate::proofs::Answered::no_box))]
 fn on_record(boxes: u64, tables: &mut [u64], numbers: [u64; 7]) -> [u64; 8]
     requires { (boxes ≤ 7) × (length tables.old ≡ boxes * table_size) }
     ensures answer { result ≡ (on_record boxes tables.old numbers).numbers }
