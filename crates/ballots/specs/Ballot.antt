@@ -1,5 +1,5 @@
 -- Ballots as the rules have them: their two parts, which numbers are ballots, and the next ballot of a box.
--- Relies on the tests of lib.Dec alone. Cited by the contracts of src/lib.rt, by BallotLaws, and by the crates above.
+-- Relies on the library's tests of numbers alone. Cited by the contracts of src/lib.rt, by BallotLaws, and by the crates above.
 use Rattle.std.specs.Prelude.{ℕ, ◌+◌, ◌*◌, ◌/◌, ◌%◌, Bool, ◌&&◌, ◌||◌, cond, ltb, leb, eqb}
 use Rattle.ballots.specs.declared.Next.{Next}
 use Rattle.ballots.specs.declared.Next.TheVariants.{Made, NoneLeft}

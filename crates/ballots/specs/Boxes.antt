@@ -1,7 +1,7 @@
--- Sets of boxes as numbers, as the rules have them: bit k stands for box k, and `ones` of lib.Count counts the members.
--- Relies on lib.Count. Cited by the contracts of src/boxes.rt, by BoxesLaws and MajorityLaws, and by the crates above.
+-- Sets of boxes as numbers, as the rules have them: bit k stands for box k, and `ones` counts the members.
+-- Relies on the library's count of ones. Cited by the contracts of src/boxes.rt, by BoxesLaws and MajorityLaws, and by the crates above.
 use Rattle.std.specs.Prelude.{ℕ, ◌+◌, ◌*◌, ◌/◌, ◌%◌, ◌^◌, Bool, ◌||◌, cond, ltb, leb, eqb}
-use lib.Count.{ones}
+use Rattle.std.specs.Int.Count.{ones}
 
 -- "bit k stands for box k"
 unfoldable pub holds_box : ℕ → ℕ → Bool

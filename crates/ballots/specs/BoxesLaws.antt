@@ -1,11 +1,12 @@
 -- Laws of sets of boxes: membership taken digit by digit, the set with one box more, its count and its bound, and subsets.
--- Relies on Boxes and lib.Count. Cited by the proofs of `holds` and `with_box`, by MajorityLaws, and by the crates above.
+-- Relies on Boxes and the library's count of ones. Cited by the proofs of `holds` and `with_box`, by MajorityLaws, and by the crates above.
 use Rattle.std.specs.Prelude.{ℕ, zero, suc, ◌+◌, ◌/◌, ◌%◌, ◌^◌, ◌≤◌, ◌<◌, ◌≡◌, refl, Bool, true, false, ◌≢◌, eqb}
 use Rattle.std.proofs.Common.{sym, ap, ◌∙◌, true≢false, pow-suc, div-one, not-suc-le-zero, lt_of_lt_of_le, lt_of_not-le, arith, pow_pos, pow_mono, eqb-true, eq-eqb, le-leb}
 use Rattle.std.proofs.Math.Bool.{or-true}
 use Rattle.std.proofs.Math.Nat.{pow-succ', div-div-eq-div-mul, div-eq_of_lt, zero-div, add-div_right}
 use Rattle.std.proofs.Math.Decide.{dec_lt, ℕ_discrete}
-use lib.Count.{ones, ones_step, ones-le}
+use Rattle.std.specs.Int.Count.{ones, ones_step}
+use Rattle.std.proofs.lemmas.Nat.{ones-le}
 use Rattle.std.proofs.lemmas.Bool.{eqb-false, lt-leb}
 use Rattle.ballots.specs.Boxes.{holds_box, with_box}
 

@@ -51,21 +51,14 @@ fn probe(
     while 0 < left {
         left -= 1;
         let number = u64::MAX - left;
-        let line = match stream::next_line(source, input, at, stop, LONGEST_RECORD) {
-            Ok(line) => line,
+        match stream::next_line(source, input, at, stop, LONGEST_RECORD) {
             Err(error) => {
                 stream::flush(sink, out, state.used)?;
                 return Err(error);
             }
-        };
-        match line {
-            Line::None => {
-                return stream::flush(sink, out, state.used);
-            }
-            Line::Bad => {
-                return stream::stop_at(sink, number, out, state.used);
-            }
-            Line::At(start, end, next) => {
+            Ok(Line::None) => return stream::flush(sink, out, state.used),
+            Ok(Line::Bad) => return stream::stop_at(sink, number, out, state.used),
+            Ok(Line::At(start, end, next)) => {
                 let reading = lines::read_record(&input[start..end]);
                 if reading.answer != 0 {
                     return stream::stop_at(sink, number, out, state.used);

@@ -80,21 +80,14 @@ fn records(
     while 1 < left {
         left -= 1;
         let number = u64::MAX - left + 1;
-        let line = match stream::next_line(source, input, at, stop, LONGEST_RECORD) {
-            Ok(line) => line,
+        match stream::next_line(source, input, at, stop, LONGEST_RECORD) {
             Err(error) => {
                 stream::flush(sink, out, used)?;
                 return Err(error);
             }
-        };
-        match line {
-            Line::None => {
-                return stream::flush(sink, out, used);
-            }
-            Line::Bad => {
-                return stream::stop_at(sink, number, out, used);
-            }
-            Line::At(start, end, next) => {
+            Ok(Line::None) => return stream::flush(sink, out, used),
+            Ok(Line::Bad) => return stream::stop_at(sink, number, out, used),
+            Ok(Line::At(start, end, next)) => {
                 let called = calls::call(&input[start..end], boxes, tables, &mut out[used..]);
                 if called.answer != 0 {
                     return stream::stop_at(sink, number, out, used);

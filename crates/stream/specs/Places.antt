@@ -1,5 +1,5 @@
 -- Where a line stands in a buffer.
--- Relies on nothing. Cited by next_line's contract, and by the proofs of the programs.
+-- Relies on nothing. Cited by next_line's contract.
 use Rattle.std.specs.Prelude.{ℕ, ◌≤◌}
 use Rattle.stream.specs.declared.Line.{Line}
 use Rattle.stream.specs.declared.Line.TheVariants.{At, Bad, None}

@@ -1,5 +1,5 @@
 -- What next_line's contract says of a line that is there.
--- Relies on Places. Cited by the proofs of the programs.
+-- Relies on Places. For whoever cuts lines out of a buffer.
 use Rattle.std.specs.Prelude.{ℕ, ◌≡◌}
 use Rattle.stream.specs.declared.Line.{Line}
 use Rattle.stream.specs.declared.Line.TheVariants.{At}

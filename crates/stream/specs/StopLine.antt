@@ -4,7 +4,7 @@ use Rattle.std.specs.Prelude.{ℕ, List, [], ◌∷◌, take}
 use Rattle.lines.specs.Write.{written_record, written_buffer}
 use Rattle.calls.specs.Call.{bad_line}
 
--- the bytes that the line of bad line `number` puts at the front of a buffer: none where it is no room for them
+-- the bytes that the line of bad line `number` puts at the front of a buffer: none where there is no room for them
 abbrev pub stop_line : ℕ → List ℕ → List ℕ
 stop_line number out =
     take (written_record (bad_line ∷ number ∷ []) out).length (written_buffer (bad_line ∷ number ∷ []) out)

@@ -96,6 +96,7 @@ fn slide(input: &mut [u8], from: usize, to: usize)
 fn more(source: &mut impl Read, input: &mut [u8], have: usize) -> io::Result<usize>
     requires { have ≤ length input.old }
     ensures within { IfOk result (λ n. (have ≤ n) × (n ≤ length input.old)) }
+    ensures err { OnErr result (length input.new ≡ length input.old) }
 {
     let space = &mut input[have..];
     let got = source.read(space)?;
