@@ -7,9 +7,8 @@ use Rattle.consensus.specs.declared.Round.{Round}
 use Rattle.consensus.specs.declared.Room.{Room}
 use Rattle.consensus.specs.declared.Event.{Event}
 use Rattle.consensus.specs.declared.Message.{Message}
-use Rattle.consensus.specs.declared.Answer.{Answer}
-use Rattle.consensus.specs.declared.Answer.TheVariants.{Quiet, Sends, BadTable, BadEvent, NotWellKept, NotAwaited, AlreadyAgreed, OtherAgreed, NoBallotLeft}
-use Rattle.consensus.specs.declared.Outcome.{Outcome}
+use Rattle.consensus.specs.Answers.{Answer, Quiet, Sends, BadTable, BadEvent, NotWellKept, NotAwaited, AlreadyAgreed, OtherAgreed, NoBallotLeft}
+use Rattle.consensus.specs.OnSlot.{Outcome}
 use Rattle.consensus.specs.Room.{promised, accepted_ballot, accepted_value, phase, agreed, collecting, begun as begun_phase}
 use Rattle.consensus.specs.WellKept.{well_kept}
 use Rattle.consensus.specs.Events.{propose, collect, last, begin, accept, success, event_ok}

@@ -5,12 +5,10 @@ use Rattle.consensus.specs.declared.Vote.{Vote}
 use Rattle.consensus.specs.declared.Saved.{Saved}
 use Rattle.consensus.specs.declared.Event.{Event}
 use Rattle.consensus.specs.declared.Message.{Message}
-use Rattle.consensus.specs.declared.Answer.{Answer}
-use Rattle.consensus.specs.declared.Answer.TheVariants.{Quiet, Sends, BadTable, BadEvent, NotWellKept, NotAwaited, AlreadyAgreed, OtherAgreed, NoBallotLeft}
 use Rattle.consensus.specs.Room.{agreed}
 use Rattle.consensus.specs.Layout.{slots, fresh, room_at}
 use Rattle.consensus.specs.Events.{propose, restart}
-use Rattle.consensus.specs.Answers.{answer_number}
+use Rattle.consensus.specs.Answers.{Answer, Quiet, Sends, BadTable, BadEvent, NotWellKept, NotAwaited, AlreadyAgreed, OtherAgreed, NoBallotLeft, answer_number}
 use Rattle.consensus.specs.OnSlot.{all_boxes}
 use Rattle.consensus.specs.Step.{Stepped}
 pub mod Keeps

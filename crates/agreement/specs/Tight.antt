@@ -5,11 +5,9 @@ use Rattle.std.specs.Prelude.{ℕ, ◌<◌, ◌≡◌, refl, List, ◌≢◌}
 use Rattle.ballots.specs.Boxes.{smallest_majority}
 use Rattle.consensus.specs.declared.Event.{Event}
 use Rattle.consensus.specs.declared.Message.{Message}
-use Rattle.consensus.specs.declared.Answer.{Answer}
-use Rattle.consensus.specs.declared.Answer.TheVariants.{Sends}
 use Rattle.consensus.specs.Layout.{slots}
 use Rattle.consensus.specs.Events.{success, restart}
-use Rattle.consensus.specs.Answers.{answer_number}
+use Rattle.consensus.specs.Answers.{Answer, Sends, answer_number}
 use Rattle.consensus.specs.OnSlot.{on_slot}
 use Rattle.consensus.specs.Step.{on_event, step}
 use Rattle.agreement.specs.Runs.{StepFunction, start, after, says}

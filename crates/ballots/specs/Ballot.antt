@@ -1,8 +1,7 @@
 -- Ballots as the rules have them: their two parts, which numbers are ballots, and the next ballot of a box.
 -- Relies on the library's tests of numbers alone. Cited by the contracts of src/lib.rt, by BallotLaws, and by the crates above.
-use Rattle.std.specs.Prelude.{ℕ, ◌+◌, ◌*◌, ◌/◌, ◌%◌, Bool, ◌&&◌, ◌||◌, cond, ltb, leb, eqb}
-use Rattle.ballots.specs.declared.Next.{Next}
-use Rattle.ballots.specs.declared.Next.TheVariants.{Made, NoneLeft}
+use Rattle.std.specs.Prelude.{ℕ, ◌+◌, ◌*◌, ◌/◌, ◌%◌, Bool, ◌&&◌, ◌||◌, Option, None, Some, cond, ltb, leb, eqb}
+use Rattle.ballots.specs.declared.Ballot.{Ballot}
 
 -- "The box count N (1 to 7)"
 abbrev pub max_boxes : ℕ
@@ -37,5 +36,5 @@ unfoldable pub none_or_ballot : ℕ → ℕ → Bool
 none_or_ballot n b = eqb b 0 || is_ballot n b
 
 -- The next ballot of the box with index i: none where i is no box's, or where x would exceed 4,294,967,295
-unfoldable pub next : ℕ → ℕ → Next
-next promised i = cond (ltb i max_boxes && leb (next_x promised) max_x) (Made (record { 0 = next_ballot promised i })) NoneLeft
+unfoldable pub next : ℕ → ℕ → Option Ballot
+next promised i = cond (ltb i max_boxes && leb (next_x promised) max_x) (Some (record { 0 = next_ballot promised i })) None

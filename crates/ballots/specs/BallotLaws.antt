@@ -1,13 +1,12 @@
 -- Laws of ballots: a ballot's parts, the next ballot, zero or a ballot, and what `next` gives.
 -- Relies on Ballot. Cited by the proof of `next_ballot` and by the crates above.
-use Rattle.std.specs.Prelude.{ℕ, ◌^◌, ◌≤◌, ◌<◌, ◌≡◌, refl, Bool, true, false, ◌&&◌, ◌||◌, ◌⊎◌, leb, ltb, eqb}
+use Rattle.std.specs.Prelude.{ℕ, ◌^◌, ◌≤◌, ◌<◌, ◌≡◌, refl, Bool, true, false, ◌&&◌, ◌||◌, ◌⊎◌, None, Some, leb, ltb, eqb}
 use Rattle.std.proofs.Math.Bool.{and-eq-true_iff, and-false, or-true}
 use Rattle.std.proofs.Common.{inl, inr, arith, lt_of_not-le, ltb-true, leb-true, eqb-true, lt-ltb, le-leb, le-ltb}
 use Rattle.std.proofs.Math.Logic.{⊎_map}
 use Rattle.std.proofs.Math.Decide.{dec_le}
 use Rattle.std.proofs.lemmas.Bool.{lt-leb}
 use Rattle.ballots.specs.declared.Ballot.{Ballot}
-use Rattle.ballots.specs.declared.Next.TheVariants.{Made, NoneLeft}
 use Rattle.ballots.specs.Ballot.{max_boxes, max_x, x_of, maker_of, next_x, next_ballot, is_ballot, none_or_ballot, next}
 
 -- ---- a ballot's parts
@@ -64,26 +63,26 @@ next_is_ballot n promised i below few left =
 
 -- ---- what `next` gives
 
-pub next_made : (promised i : ℕ) → i < max_boxes → next_x promised ≤ max_x → next promised i ≡ Made (record { 0 = next_ballot promised i })
+pub next_made : (promised i : ℕ) → i < max_boxes → next_x promised ≤ max_x → next promised i ≡ Some (record { 0 = next_ballot promised i })
 unfolding next
 next_made promised i below left = simp (lt-ltb i max_boxes below, le-leb (next_x promised) max_x left)
 
-pub next_no_box : (promised i : ℕ) → max_boxes ≤ i → next promised i ≡ NoneLeft
+pub next_no_box : (promised i : ℕ) → max_boxes ≤ i → next promised i ≡ None
 unfolding next
 next_no_box promised i above = simp (le-ltb i max_boxes above)
 
-pub next_no_x : (promised i : ℕ) → max_x < next_x promised → next promised i ≡ NoneLeft
+pub next_no_x : (promised i : ℕ) → max_x < next_x promised → next promised i ≡ None
 unfolding next
 next_no_x promised i above = simp (lt-leb (next_x promised) max_x above, and-false)
 
-pub made_is_next : (promised i : ℕ) (b : Ballot) → i < max_boxes → next promised i ≡ Made b → (next_x promised ≤ max_x) × (b ≡ record { 0 = next_ballot promised i })
+pub made_is_next : (promised i : ℕ) (b : Ballot) → i < max_boxes → next promised i ≡ Some b → (next_x promised ≤ max_x) × (b ≡ record { 0 = next_ballot promised i })
 made_is_next promised i b below e =
     elim (dec_le (next_x promised) max_x) [
       | yes left ↦ (left, cc (next_made promised i below left))
       | no above ↦ absurd (let z : ◌≡◌ {A = ℕ} 0 1 = cc (next_no_x promised i (lt_of_not-le above)) in omega arith)
     ]
 
-pub none_has_no_x : (promised i : ℕ) → i < max_boxes → next promised i ≡ NoneLeft → max_x < next_x promised
+pub none_has_no_x : (promised i : ℕ) → i < max_boxes → next promised i ≡ None → max_x < next_x promised
 none_has_no_x promised i below e =
     elim (dec_le (next_x promised) max_x) [
       | yes left ↦ absurd (let z : ◌≡◌ {A = ℕ} 0 1 = cc (next_made promised i below left) in omega arith)

@@ -4,21 +4,15 @@ ghost use Rattle.std.specs.Prelude.{◌≡◌};
 ghost use Rattle.std.specs.Int.Count.{ones};
 ghost use Rattle.ballots.specs.Boxes.{holds_box, is_majority, with_box};
 
-// A count of bits as a number of 64 bits.
-fn wide(c: u32) -> u64
-    ensures { result ≡ c }
-{
-    c as u64
-}
-
 // How many boxes a set has.
 pub fn count(set: u64) -> u64
     ensures { result ≡ ones set }
 {
-    wide(u64::count_ones(set))
+    u64::from(set.count_ones())
 }
 
 // Whether a set is a majority of this many boxes: its count, doubled, exceeds their number.
+#[tactic(auto, unfolding(crate::specs::Boxes::is_majority))]
 pub fn is_majority(boxes: u64, set: u64) -> bool
     ensures { result ≡ is_majority boxes set }
 {
@@ -26,6 +20,7 @@ pub fn is_majority(boxes: u64, set: u64) -> bool
 }
 
 // Whether a set has box `k`.
+#[tactic(auto, using(crate::proofs::Words::no_far_box), unfolding(crate::specs::Boxes::holds_box))]
 pub fn holds(set: u64, k: u64) -> bool
     ensures { result ≡ holds_box set k }
 {
@@ -36,6 +31,7 @@ pub fn holds(set: u64, k: u64) -> bool
 }
 
 // The set with box `k`.
+#[tactic(auto, using(crate::specs::BoxesLaws::with_box_of_held, crate::specs::BoxesLaws::with_box_of_far, crate::specs::BoxesLaws::with_box_of_new, crate::proofs::Words::one_shifted, crate::proofs::Words::room_for_box))]
 pub fn with_box(set: u64, k: u64) -> u64
     ensures { result ≡ with_box set k }
 {

@@ -13,19 +13,12 @@ pub const MAX_BOXES: u64 = 7;
 const MAX_X: u64 = 4294967295;
 
 // A ballot number. A tuple struct of its own, so that no slot number passes for one.
-#[derive(Clone, Copy)]
+#[derive(Clone, Copy, Debug, Default, PartialEq, Eq, PartialOrd, Ord, Hash)]
 pub struct Ballot(pub u64);
 
 // A slot number.
-#[derive(Clone, Copy)]
+#[derive(Clone, Copy, Debug, Default, PartialEq, Eq, PartialOrd, Ord, Hash)]
 pub struct Slot(pub u64);
-
-// What making the next ballot gives: the ballot, or that no x is left or the index is no box's.
-#[derive(Clone, Copy)]
-pub enum Next {
-    Made(Ballot),
-    NoneLeft,
-}
 
 // The x of a ballot 8x + i.
 pub fn x_of(b: Ballot) -> u64
@@ -42,29 +35,26 @@ pub fn maker_of(b: Ballot) -> u64
 }
 
 // Whether `b` is a ballot for this many boxes.
+#[tactic(auto, unfolding(crate::specs::Ballot::is_ballot))]
 pub fn is_ballot(boxes: u64, b: Ballot) -> bool
     ensures { result ≡ is_ballot boxes b.0 }
 {
     let x = x_of(b);
-    if x < 1 {
-        return false;
-    }
-    if MAX_X < x {
-        return false;
-    }
-    maker_of(b) < boxes
+    (1 <= x) & (x <= MAX_X) & (maker_of(b) < boxes)
 }
 
-// The ballot that the box of this index makes next, above every ballot up to `promised`.
-pub fn next_ballot(promised: Ballot, index: u64) -> Next
+// The ballot that the box of this index makes next, above every ballot up to `promised`: none where no x is left, or where
+// the index is no box's.
+#[tactic(auto, using(crate::specs::BallotLaws::next_made, crate::specs::BallotLaws::next_no_box, crate::specs::BallotLaws::next_no_x))]
+pub fn next_ballot(promised: Ballot, index: u64) -> Option<Ballot>
     ensures { result ≡ next promised.0 index }
 {
     if MAX_BOXES <= index {
-        return Next::NoneLeft;
+        return None;
     }
     let x = x_of(promised) + 1;
     if MAX_X < x {
-        return Next::NoneLeft;
+        return None;
     }
-    Next::Made(Ballot(8 * x + index))
+    Some(Ballot(8 * x + index))
 }

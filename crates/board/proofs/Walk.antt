@@ -52,14 +52,26 @@ next_of_run agreed link left s e true = by_gap (eqb (agreed s) 0)
     by_gap true = refl
     by_gap false = refl
 
-pub slot_walked :
-    (table : List ℕ) (link value : ℕ) (e after : Entry) (known : Bool) (s : ℕ) →
-    s < slots → value ≡ agreed_at table s →
-    after ≡ (if known && not (eqb value 0) then applied e link value else e) →
-    Walked table link e known s → Walked table link after (known && not (eqb value 0)) (s + 1)
-slot_walked table link value e after known s below read made w =
-    let one_less : slots - s ≡ suc (slots - suc s) = omega arith in
-    record {
-      within = omega arith;
-      same_end = rw (made, read, add-one) (next_of_run (agreed_at table) link (slots - suc s) s e known ∙ (rw one_less at w.same_end));
-    }
+module _ (table : List ℕ) (link value : ℕ) (e after : Entry) (known : Bool) (s : ℕ) where
+  slot_walked :
+      s < slots → value ≡ agreed_at table s →
+      after ≡ (if known && not (eqb value 0) then applied e link value else e) →
+      Walked table link e known s → Walked table link after (known && not (eqb value 0)) (s + 1)
+  slot_walked below read made w =
+      let one_less : slots - s ≡ suc (slots - suc s) = omega arith in
+      record {
+        within = omega arith;
+        same_end = rw (made, read, add-one) (next_of_run (agreed_at table) link (slots - suc s) s e known ∙ (rw one_less at w.same_end));
+      }
+
+  -- while every slot so far is agreed its value is applied
+  pub slot_counted :
+      (known && not (eqb value 0)) ≡ true → after ≡ applied e link value → s < slots → value ≡ agreed_at table s →
+      Walked table link e known s → Walked table link after (known && not (eqb value 0)) (s + 1)
+  slot_counted counts made below read w = slot_walked below read (rw counts made) w
+
+  -- from the first gap on none is
+  pub slot_passed :
+      (known && not (eqb value 0)) ≡ false → after ≡ e → s < slots → value ≡ agreed_at table s →
+      Walked table link e known s → Walked table link after (known && not (eqb value 0)) (s + 1)
+  slot_passed gap same below read w = slot_walked below read (rw gap same) w

@@ -1,13 +1,13 @@
 -- The board: what a command does to the entry of a link, the known prefix of a table, and what the board answers for a link.
 -- Relies on Command and, of a table, on `table_ok` and `agreed_at` alone. Cited by the contracts, the laws and the cases.
-use Rattle.std.specs.Prelude.{ℕ, zero, suc, ◌+◌, not, ◌&&◌, ltb, eqb, if◌then◌else◌}
+use Rattle.std.specs.Prelude.{ℕ, zero, suc, ◌+◌, not, ◌&&◌, Result, Ok, Err, get_or, ltb, eqb, if◌then◌else◌}
 use mathlib.Core.List.{List, [], ◌∷◌, foldl}
 use Rattle.consensus.specs.Layout.{slots}
 use Rattle.consensus.specs.Step.{table_ok, agreed_at}
 use Rattle.board.specs.declared.Command.{Command}
 use Rattle.board.specs.declared.Entry.{Entry}
-use Rattle.board.specs.declared.BoardAnswer.{BoardAnswer}
-use Rattle.board.specs.declared.BoardAnswer.TheVariants.{Link, BadTable, BadLink}
+use Rattle.board.specs.declared.refusal.BoardRefusal.{BoardRefusal}
+use Rattle.board.specs.declared.refusal.BoardRefusal.TheVariants as refusal
 use Rattle.board.specs.Command.{command_of}
 
 abbrev pub last_link : ℕ
@@ -68,6 +68,12 @@ applied_all e link values = foldl (λ (before : Entry) (value : ℕ). applied be
 abbrev pub entry_of : List ℕ → ℕ → Entry
 entry_of values link = applied_all free link values
 
+-- what the board answers; `numbers_of` below gives the rules' number and the entry's three for each case
+pub data BoardAnswer : Type 0 where
+  Link : Entry → BoardAnswer
+  BadTable : BoardAnswer
+  BadLink : BoardAnswer
+
 -- answer 1: the table is not good; answer 2: "link above 255"; the lowest that holds
 unfoldable pub board_of : List ℕ → ℕ → BoardAnswer
 board_of table link =
@@ -80,3 +86,13 @@ abbrev pub numbers_of : BoardAnswer → List ℕ
 numbers_of (Link e) = 0 ∷ e.owner ∷ e.revision ∷ e.ticket ∷ []
 numbers_of BadTable = 1 ∷ 0 ∷ 0 ∷ 0 ∷ []
 numbers_of BadLink = 2 ∷ 0 ∷ 0 ∷ 0 ∷ []
+
+-- the rules' number of an answer
+abbrev pub answer_of : BoardAnswer → ℕ
+answer_of a = get_or (numbers_of a) 0 0
+
+-- the rules' answer that a result of `board` stands for
+abbrev pub answer_by_rules : Result Entry BoardRefusal → BoardAnswer
+answer_by_rules (Ok e) = Link e
+answer_by_rules (Err refusal.BadTable) = BadTable
+answer_by_rules (Err refusal.BadLink) = BadLink

@@ -1,6 +1,6 @@
--- Laws of the board: which answers occur and when, and what a command can change.
+-- Laws of the board: which answers occur and when, that an answer tells its result, and what a command can change.
 -- Relies on Board. Cited by PrefixLaws, OwnerLaws and BoardRuns, and by whoever promises something of the board.
-use Rattle.std.specs.Prelude.{ℕ, ◌+◌, ◌≤◌, ◌<◌, ◌≡◌, refl, Bool, true, false, not, List, ◌↔◌, ◌⊎◌, ltb, get_or, if◌then◌else◌}
+use Rattle.std.specs.Prelude.{ℕ, ◌+◌, ◌≤◌, ◌<◌, ◌≡◌, refl, Bool, true, false, not, List, Result, Ok, Err, ◌↔◌, ◌⊎◌, ltb, if◌then◌else◌}
 use Rattle.std.proofs.Common.{sym, ap, ◌∙◌, true≢false, inl, inr, arith, lt_of_not-le}
 use Rattle.std.proofs.lemmas.Bool.{false≢true}
 use Rattle.std.proofs.Math.Bool.{and-false}
@@ -10,20 +10,31 @@ use Rattle.consensus.specs.Step.{table_ok}
 use Rattle.step_laws.specs.ByTest.{by_answer}
 use Rattle.board.specs.declared.Command.{Command}
 use Rattle.board.specs.declared.Entry.{Entry}
-use Rattle.board.specs.declared.BoardAnswer.{BoardAnswer}
-use Rattle.board.specs.declared.BoardAnswer.TheVariants.{Link, BadTable, BadLink}
-use Rattle.board.specs.Board.{last_link, last_revision, entry, claimed, revised, obeyed, known_prefix, entry_of, board_of, numbers_of}
+use Rattle.board.specs.declared.refusal.BoardRefusal.{BoardRefusal}
+use Rattle.board.specs.declared.refusal.BoardRefusal.TheVariants as refusal
+use Rattle.board.specs.Board.{BoardAnswer, Link, BadTable, BadLink, last_link, last_revision, entry, claimed, revised, obeyed, known_prefix, entry_of, board_of, answer_of, answer_by_rules}
 
 -- ---- which answers occur
-
--- the rules' number of an answer
-abbrev pub answer_of : BoardAnswer → ℕ
-answer_of a = get_or (numbers_of a) 0 0
 
 pub answers_0_to_2 : (a : BoardAnswer) → answer_of a ≤ 2
 answers_0_to_2 (Link e) = omega arith
 answers_0_to_2 BadTable = omega arith
 answers_0_to_2 BadLink = omega arith
+
+-- the result of `board` that an answer tells
+abbrev result_of : BoardAnswer → Result Entry BoardRefusal
+result_of (Link e) = Ok e
+result_of BadTable = Err refusal.BadTable
+result_of BadLink = Err refusal.BadLink
+
+told : (r : Result Entry BoardRefusal) → result_of (answer_by_rules r) ≡ r
+told (Ok e) = refl
+told (Err refusal.BadTable) = refl
+told (Err refusal.BadLink) = refl
+
+-- two results of `board` with one answer by the rules are one
+pub answer_tells_result : (x y : Result Entry BoardRefusal) → answer_by_rules x ≡ answer_by_rules y → x ≡ y
+answer_tells_result x y same = sym (told x) ∙ ap result_of same ∙ told y
 
 -- what the board answers by its two tests
 abbrev by_tests : Bool → Bool → Entry → BoardAnswer

@@ -12,8 +12,7 @@ use Rattle.agreement.specs.Runs.Keeps.{reachable_kept, run_keeps}
 use Rattle.agreement.specs.Promises.{Count}
 use Rattle.agreement.proofs.Promises.{step_keeps_promises}
 use Rattle.board.specs.declared.Entry.{Entry}
-use Rattle.board.specs.declared.BoardAnswer.TheVariants.{Link}
-use Rattle.board.specs.Board.{known_prefix, entry_of, board_of}
+use Rattle.board.specs.Board.{known_prefix, entry_of, Link, board_of}
 use Rattle.board.specs.BoardLaws.{answered}
 use Rattle.board.specs.RunLaws.{known_value_is_agreed}
 use Rattle.board.specs.PrefixLaws.{AgreeAlike, prefixes_agree, revision_has_one_entry}

@@ -5,9 +5,8 @@ use Rattle.std.proofs.Common.{sym, ap, ◌∙◌, inl, inr, add-zero, add-suc, a
 use mathlib.Core.List.{List, [], ◌∷◌, IsPrefix}
 use Rattle.std.proofs.Math.Seq.{take-append_seam}
 use Rattle.board.specs.declared.Entry.{Entry}
-use Rattle.board.specs.declared.BoardAnswer.TheVariants.{Link}
 use Rattle.board.specs.Command.{command_of}
-use Rattle.board.specs.Board.{free, applied, applied_all, known_prefix, entry_of, board_of}
+use Rattle.board.specs.Board.{free, applied, applied_all, known_prefix, entry_of, Link, board_of}
 use Rattle.board.specs.BoardLaws.{answered, ClaimsOrRevises, stays, claims, revises, claim_or_revision_changes, effect, owner_stays}
 use Rattle.board.specs.PrefixLaws.{entry_of_longer, unowned_entry_is_free}
 

@@ -2,28 +2,31 @@
 // Relies on specs/, and of the box below on the contracts of `table_ok` and `agreed_at` alone.
 #![tactic(auto)]
 
-ghost use Rattle.std.specs.Prelude.{◌≡◌, if◌then◌else◌};
+ghost use Rattle.std.specs.Prelude.{◌≡◌};
 ghost use Rattle.board.specs.Command.{command_of};
-ghost use Rattle.board.specs.Board.{claimed, revised, applied, known_prefix, entry_of, board_of};
+ghost use Rattle.board.specs.Board.{claimed, revised, applied, known_prefix, entry_of, board_of, numbers_of, answer_by_rules};
+
+mod refusal; // refusal.rt: why the board says nothing of a link
 
 use ballots::Slot;
 use consensus::{SLOTS, agreed_at, table_ok};
+pub use refusal::BoardRefusal;
 
-// 2^48, 2^40, 2^32 and 2^8: where the author, the link and the revision of a value start, and how far a link and a revision go.
-const AUTHOR_UNIT: u64 = 281474976710656;
+// Where the author, the link and the revision of a value start, and how far a link and a revision go.
+const AUTHOR_UNIT: u64 = 1 << 48;
 
-const LINK_UNIT: u64 = 1099511627776;
+const LINK_UNIT: u64 = 1 << 40;
 
-const REVISION_UNIT: u64 = 4294967296;
+const REVISION_UNIT: u64 = 1 << 32;
 
-const EIGHT_BITS: u64 = 256;
+const EIGHT_BITS: u64 = 1 << 8;
 
 const LAST_LINK: u64 = 255;
 
 const LAST_REVISION: u64 = 255;
 
 // The four parts of a value.
-#[derive(Clone, Copy)]
+#[derive(Clone, Copy, Debug, Default, PartialEq, Eq, Hash)]
 pub struct Command {
     pub author: u64,
     pub link: u64,
@@ -31,23 +34,15 @@ pub struct Command {
     pub ticket: u64,
 }
 
-// What the board says of a link; three zeros when it is free.
-#[derive(Clone, Copy)]
+// What the board says of a link; three zeros, the default, when it is free, as the rules have it.
+#[derive(Clone, Copy, Debug, Default, PartialEq, Eq, Hash)]
 pub struct Entry {
     pub owner: u64,
     pub revision: u64,
     pub ticket: u64,
 }
 
-// What the board answers; `numbers_of` gives the rules' number and the entry's three for each case.
-#[derive(Clone, Copy)]
-pub enum BoardAnswer {
-    Link(Entry),
-    BadTable,
-    BadLink,
-}
-
-// The command that a value is.
+// The command that a value is. A public function, and so it stays; a `From<u64>` beside it would be a second name for it.
 pub fn command_of(value: u64) -> Command
     ensures { result ≡ command_of value }
 {
@@ -64,14 +59,14 @@ pub fn command_of(value: u64) -> Command
 fn claimed(entry: Entry, command: Command) -> Entry
     ensures { result ≡ claimed entry command }
 {
-    if command.revision == 0 {
-        return Entry {
-            owner: command.author,
-            revision: 1,
-            ticket: command.ticket,
-        };
+    if command.revision != 0 {
+        return entry;
     }
-    entry
+    Entry {
+        owner: command.author,
+        revision: 1,
+        ticket: command.ticket,
+    }
 }
 
 // An owned link: the owner, naming its present revision, sets the ticket.
@@ -79,19 +74,16 @@ fn claimed(entry: Entry, command: Command) -> Entry
 fn revised(entry: Entry, command: Command) -> Entry
     ensures { result ≡ revised entry command }
 {
-    if command.author != entry.owner {
-        return entry;
-    }
-    if command.revision != entry.revision {
-        return entry;
-    }
-    if LAST_REVISION <= entry.revision {
+    if command.author != entry.owner
+        || command.revision != entry.revision
+        || LAST_REVISION <= entry.revision
+    {
         return entry;
     }
     Entry {
-        owner: entry.owner,
         revision: entry.revision + 1,
         ticket: command.ticket,
+        ..entry
     }
 }
 
@@ -101,10 +93,7 @@ pub fn applied(entry: Entry, link: u64, value: u64) -> Entry
     ensures { result ≡ applied entry link value }
 {
     let command = command_of(value);
-    if command.link != link {
-        return entry;
-    }
-    if command.author == 0 {
+    if command.link != link || command.author == 0 {
         return entry;
     }
     if entry.owner == 0 {
@@ -113,47 +102,44 @@ pub fn applied(entry: Entry, link: u64, value: u64) -> Entry
     revised(entry, command)
 }
 
-// The entry after one more slot: its command counts only while every slot so far is agreed.
-fn after_slot(known: bool, entry: Entry, link: u64, value: u64) -> Entry
-    ensures { result ≡ if known then applied entry link value else entry }
-{
-    if known {
-        return applied(entry, link, value);
-    }
-    entry
-}
-
 // The entry of a link: the commands of the known prefix, in slot order, from a free link on.
-#[tactic(auto, using(crate::proofs::Walk::walk_starts, crate::proofs::Walk::slot_walked, crate::proofs::Walk::walk_ends))]
+// Every slot is looked at: to end the walk early is a request of its own (R-1).
+#[tactic(auto, using(crate::proofs::Walk::walk_starts, crate::proofs::Walk::slot_counted, crate::proofs::Walk::slot_passed, crate::proofs::Walk::walk_ends))]
 fn entry_of(table: &[u64], link: u64) -> Entry
     ensures { result ≡ entry_of (known_prefix table.now) link }
 {
-    let mut entry = Entry {
-        owner: 0,
-        revision: 0,
-        ticket: 0,
-    };
+    let mut entry = Entry::default();
     let mut known = true;
-    let mut s: u64 = 0;
-    while s < SLOTS {
+    for s in 0..SLOTS {
         let value = agreed_at(table, Slot(s));
-        known = known & (value != 0);
-        entry = after_slot(known, entry, link, value);
-        s += 1;
+        known &= value != 0;
+        if known {
+            entry = applied(entry, link, value);
+        }
     }
     entry
 }
 
 // What the board says of a link.
 #[tactic(auto, unfolding(crate::specs::Board::board_of))]
-pub fn board(table: &[u64], link: u64) -> BoardAnswer
-    ensures { result ≡ board_of table.now link }
+pub fn board(table: &[u64], link: u64) -> Result<Entry, BoardRefusal>
+    ensures { answer_by_rules result ≡ board_of table.now link }
 {
     if !table_ok(table) {
-        return BoardAnswer::BadTable;
+        return Err(BoardRefusal::BadTable);
     }
     if LAST_LINK < link {
-        return BoardAnswer::BadLink;
+        return Err(BoardRefusal::BadLink);
     }
-    BoardAnswer::Link(entry_of(table, link))
+    Ok(entry_of(table, link))
+}
+
+// The rules' number of an answer, and the owner, the revision and the ticket, which are zeros where it is refused.
+pub fn numbers_of(answer: Result<Entry, BoardRefusal>) -> [u64; 4]
+    ensures { result ≡ numbers_of (answer_by_rules answer) }
+{
+    match answer {
+        Ok(entry) => [0, entry.owner, entry.revision, entry.ticket],
+        Err(refusal) => [u64::from(refusal), 0, 0, 0],
+    }
 }

@@ -1,29 +1,16 @@
--- How a table filled with zeros becomes fresh, and how the tables become fresh one after the other.
--- Relies on the laws of the tables. Cited by the proofs of fresh_table and fresh_tables.
+-- How the tables become fresh one after the other.
+-- Relies on the laws of the tables. Cited by the proof of fresh_tables.
 use Prim.Native.Nat.{ℕ, ◌+◌, ◌*◌, ◌≤◌, ◌<◌}
 use mathlib.Core.Path.{◌≡◌, refl, ap, sym, ◌∙◌}
-use mathlib.Core.List.{List, [], ◌++◌, append-nil, append_assoc}
+use mathlib.Core.List.{List, ◌++◌, append_assoc}
 use native.Mathlib.Numerals.{add-one}
 use native.Mathlib.Omega.{arith}
-use lib.ListN.{length, take, drop, set, replicate, length-append, length-replicate, length-drop, drop_of_length-le}
+use lib.ListN.{length, take, drop, length-append, length-drop}
 use lib.Seq.{length-take-le, take_all, take_at}
 use Rattle.ballots.specs.Ballot.{max_boxes}
 use Rattle.consensus.specs.Layout.{table_size, fresh}
 use Rattle.calls.specs.Tables.{table_start, fresh_first}
 use Rattle.calls.specs.TablesLaws.{TablesParts, fresh_long}
-
--- the first k numbers zero, the others as they were
-pub filled_length : (k : ℕ) (table table₀ : List ℕ) → table ≡ replicate k 0 ++ drop k table₀ → k ≤ length table₀ →
-    length table ≡ length table₀
-filled_length k table table₀ e within = rw e (simp (length-append, length-replicate, length-drop) (omega arith))
-
-pub zeros_made_fresh : (boxes index k : ℕ) (table table₀ : List ℕ) → k ≡ table_size → table ≡ replicate k 0 ++ drop k table₀ →
-    length table₀ ≡ table_size → set (set table 0 boxes) 1 index ≡ fresh boxes index
-zeros_made_fresh boxes index k table table₀ all e long =
-    let short : length table₀ ≤ k = omega arith in
-    let none : drop k table₀ ≡ [] = drop_of_length-le table₀ short in
-    let zeros : table ≡ replicate k 0 = e ∙ rw (none, append-nil) in
-    ap (λ (t : List ℕ). set (set t 0 boxes) 1 index) zeros ∙ ap (λ (n : ℕ). set (set (replicate n 0) 0 boxes) 1 index) all
 
 -- the tables of the boxes below i are fresh
 pub record FreshSoFar (boxes : ℕ) (tables₀ : List ℕ) (i : ℕ) (tables : List ℕ) : Type 0 where

@@ -1,13 +1,13 @@
 -- What one line of a replay does to the tables and to the buffer, and what the call returns.
 -- Relies on the reading of lines, the step and the numbers of an answer. Cited by call's contract.
-use Rattle.std.specs.Prelude.{ℕ, List, ◌++◌, not, length, drop, get_or, ltb, eqb, if◌then◌else◌}
+use Rattle.std.specs.Prelude.{ℕ, Result, Ok, Err, List, ◌++◌, not, length, drop, get_or, ltb, eqb, if◌then◌else◌}
 use Rattle.lines.specs.Text.{line_text}
 use Rattle.lines.specs.Read.{read_record}
 use Rattle.consensus.specs.declared.Event.{Event}
-use Rattle.consensus.specs.declared.Answer.TheVariants.{BadEvent}
-use Rattle.consensus.specs.Answers.{numbers_of}
+use Rattle.consensus.specs.Answers.{BadEvent, numbers_of}
 use Rattle.consensus.specs.Step.{Stepped, step}
-use Rattle.calls.specs.declared.Called.{Called}
+use Rattle.calls.specs.declared.refusal.CallRefusal.{CallRefusal}
+use Rattle.calls.specs.declared.refusal.CallRefusal.TheVariants.{BadTables, BadLine, ShortBuffer}
 use Rattle.calls.specs.Tables.{tables_ok, table_of, with_table}
 
 -- the answers of calls that do nothing
@@ -58,6 +58,11 @@ on_record boxes tables ns =
     if ltb (box_of ns) boxes then stepped tables (box_of ns) (step (table_of tables (box_of ns)) (event_of ns))
     else no_such_box tables
 
+-- what a call gives: answer 0 and the length of the line that it wrote, or the refusal's number and 0
+pub record Called : Type 0 where
+  pub answer : ℕ
+  pub length : ℕ
+
 -- after a call: what it returns, the tables and the buffer
 pub record AfterCall : Type 0 where
   pub called : Called
@@ -92,3 +97,10 @@ call line boxes tables out =
     else if not (eqb (read_record line).answer 0) then refuse bad_line tables out
     else if ltb (length out) longest_answer then refuse short_buffer tables out
     else answer_line (on_record boxes tables (read_record line).numbers) out
+
+-- what the rules call the outcome of a call
+abbrev pub called_by_rules : Result ℕ CallRefusal → Called
+called_by_rules (Ok n) = answered n
+called_by_rules (Err BadTables) = refusal bad_tables
+called_by_rules (Err BadLine) = refusal bad_line
+called_by_rules (Err ShortBuffer) = refusal short_buffer

@@ -1,9 +1,11 @@
 -- How looking for a newline goes on, and that a line is within the bytes.
--- Relies on FirstLine. Cited by the proof of line_length, and for whoever cuts bytes into lines.
-use Rattle.std.specs.Prelude.{ℕ, zero, suc, ◌+◌, ◌≤◌, ◌≡◌, refl, List, [], ◌∷◌, length, eqb}
+-- Relies on FirstLine and UnlessZero. For whoever cuts bytes into lines.
+use Rattle.std.specs.Prelude.{ℕ, zero, suc, ◌+◌, ◌≤◌, ◌≡◌, refl, List, [], ◌∷◌, Some, length, eqb}
 use Rattle.std.proofs.Common.{arith}
 use Rattle.lines.specs.ByTest.{by_test}
 use Rattle.lines.specs.Text.{newline}
+use Rattle.calls.specs.UnlessZero.{unless_zero}
+use Rattle.calls.specs.UnlessZeroLaws.{some_tells}
 use Rattle.calls.specs.FirstLine.{longer, line_length}
 
 longer_within : (n m : ℕ) → n ≤ m → longer n ≤ suc m
@@ -16,6 +18,10 @@ line_within_bytes [] = omega arith
 line_within_bytes (b ∷ bs) =
     by_test (λ (n : ℕ). n ≤ suc (length bs)) (eqb b newline) _ _ (λ _. omega arith)
     (λ _. longer_within (line_length bs) (length bs) (line_within_bytes bs))
+
+-- a line that line_length finds is within the bytes
+pub found_within : (bytes : List ℕ) (n : ℕ) → Some n ≡ unless_zero (line_length bytes) → n ≤ length bytes
+found_within bytes n found = omega (arith, some_tells (line_length bytes) n found, line_within_bytes bytes)
 
 -- a line's length with `k` bytes more in front of it, if there is a line
 abbrev pub longer_by : ℕ → ℕ → ℕ

@@ -1,5 +1,5 @@
 -- What a header tells: its length and the range of its N; the N of each header, and of any line.
--- Relies on Header. Cited by the proof of boxes_of, and for whoever reads a header.
+-- Relies on Header. For whoever reads a header.
 use Rattle.std.specs.Prelude.{ℕ, ◌≤◌, ◌≡◌, refl, true, List, [], ◌∷◌, map, length}
 use Rattle.std.proofs.Math.Bool.{and-eq-true_iff}
 use Rattle.std.proofs.Common.{arith, eqb-true, leb-true}

@@ -1,5 +1,7 @@
 -- The definitions that the contracts cite, and beside them their laws.
--- Header, FirstLine, Tables and Call are what a reader must believe.
+-- UnlessZero, Header, FirstLine, Tables and Call are what a reader must believe.
+pub mod UnlessZero
+pub mod UnlessZeroLaws
 pub mod Header
 pub mod HeaderLaws
 pub mod FirstLine

@@ -1,70 +1,58 @@
 // What one line of a replay does: the header names the boxes, a record is one step at one box's table, and the answer
 // is written as a line. Relies on specs/, which says what each function gives; nothing here knows how a step goes.
+// The count of boxes and the tables come as two, since the public functions take any count and any slice, and refuse what doesn't fit.
 #![tactic(auto)]
 
-ghost use Rattle.std.specs.Prelude.{◌≡◌, [], ◌∷◌, ◌*◌, ◌<◌, ◌≤◌, length};
-ghost use Rattle.lines.specs.Write.{written_record, written_buffer};
+ghost use Rattle.std.specs.Prelude.{◌≡◌, [], ◌∷◌, ◌*◌, ◌≤◌, eqb, length, position};
+ghost use Rattle.ballots.specs.Ballot.{max_boxes};
+ghost use Rattle.lines.specs.Text.{newline};
+ghost use Rattle.lines.specs.Write.{written_by_rules, written_record, written_buffer};
 ghost use Rattle.consensus.specs.Layout.{table_size, fresh};
-ghost use Rattle.consensus.specs.Answers.{numbers_of};
-ghost use Rattle.calls.specs.Header.{is_header, boxes_of};
+ghost use Rattle.consensus.specs.Answers.{answer_by_rules, numbers_of};
+ghost use Rattle.calls.specs.UnlessZero.{unless_zero};
+ghost use Rattle.calls.specs.Header.{boxes_of};
 ghost use Rattle.calls.specs.FirstLine.{line_length};
 ghost use Rattle.calls.specs.Tables.{tables_ok, fresh_tables};
-ghost use Rattle.calls.specs.Call.{bad_line, refusal, event_of, on_record, call};
+ghost use Rattle.calls.specs.Call.{bad_line, called_by_rules, on_record, call};
 
-use ballots::{Ballot, MAX_BOXES, Slot};
-use consensus::{Answer, Event, Message, TABLE_SIZE};
+mod refusal; // refusal.rt: why a call does nothing
 
-// The answers of calls that do nothing.
-const BAD_TABLES: u64 = 1;
-
-const BAD_LINE: u64 = 8;
-
-const SHORT_BUFFER: u64 = 9;
+use ballots::MAX_BOXES;
+use consensus::{Event, Message, Refusal, TABLE_SIZE};
+use lines::{LONGEST_NUMBER, NEWLINE, ShortBuffer, TAB};
+pub use refusal::CallRefusal;
 
 // The bytes of the longest answer's line.
-const LONGEST_ANSWER: usize = 168;
+const LONGEST_ANSWER: usize = 8 * LONGEST_NUMBER;
 
-const TAB: u8 = b'\t';
-
-const NEWLINE: u8 = b'\n';
-
-// "boxes", tab, N, newline.
-const HEADER_LENGTH: usize = 8;
-
-// What a call gives: answer 0 and the length of the line that it wrote, or the refusal's number and 0.
-#[derive(Clone, Copy)]
-pub struct Called {
-    pub answer: u64,
-    pub length: usize,
-}
-
-// How many boxes a header names, or 0 where the line is no header.
-#[tactic(auto, using(crate::specs::HeaderLaws::header_parts), unfolding(crate::specs::Header::boxes_of))]
-pub fn boxes_of(line: &[u8]) -> u64
-    ensures { result ≡ boxes_of line.now }
+// How many boxes a header names: "boxes", tab, N, newline.
+#[tactic(auto, unfolding(crate::specs::Header::boxes_of, crate::specs::Header::is_header, crate::specs::Header::says_boxes))]
+pub fn boxes_of(line: &[u8]) -> Option<u64>
+    ensures { result ≡ unless_zero (boxes_of line.now) }
 {
-    if !is_header(line) {
-        return 0;
+    match line {
+        [b'b', b'o', b'x', b'e', b's', TAB, n @ b'1'..=b'7', NEWLINE] => Some(u64::from(n - b'0')),
+        _ => None,
     }
-    (line[6] - b'0') as u64
 }
 
-// The length of the first line of some bytes, its newline included, or 0 where there is no newline.
+// The length of the first line of some bytes, its newline included.
 #[tactic(auto, using(crate::proofs::Sets::line_length))]
-pub fn line_length(bytes: &[u8]) -> usize
-    ensures { result ≡ line_length bytes.now }
+pub fn line_length(bytes: &[u8]) -> Option<usize>
+    ensures { result ≡ unless_zero (line_length bytes.now) }
 {
-    let mut i = 0;
-    while i < bytes.len() {
-        if bytes[i] == NEWLINE {
-            return i + 1;
-        }
-        i += 1;
-    }
-    0
+    let end = newline_at(bytes)?;
+    Some(end + 1)
 }
 
-// Makes the tables fresh, in a place that has room for just those of 1 to 7 boxes.
+// Where the first newline stands. A function of its own, since in `line_length` the proof does not follow the search.
+fn newline_at(bytes: &[u8]) -> Option<usize>
+    ensures { result ≡ position (λ b. eqb b newline) bytes.now }
+{
+    bytes.iter().position(|b| *b == NEWLINE)
+}
+
+// Makes the tables fresh, in a place that has room for just those of 1 to 7 boxes. Any other stays as it was.
 #[tactic(auto, using(crate::proofs::Sets::fresh_tables), unfolding(crate::specs::Tables::fresh_tables))]
 pub fn fresh_tables(boxes: u64, tables: &mut [u64])
     ensures { tables.new ≡ fresh_tables boxes tables.old }
@@ -72,98 +60,56 @@ pub fn fresh_tables(boxes: u64, tables: &mut [u64])
     if !tables_ok(boxes, tables) {
         return;
     }
-    let mut i = 0;
-    while i < boxes {
+    // By index, since the proof doesn't close over chunks_exact_mut, plain, enumerated or zipped: nothing says what its parts end as.
+    for i in 0..boxes {
         let start = i as usize * TABLE_SIZE;
-        let end = start + TABLE_SIZE;
-        fresh_table(boxes, i, &mut tables[start..end]);
-        i += 1;
+        fresh_table(boxes, i, &mut tables[start..start + TABLE_SIZE]);
     }
 }
 
-// One line of a replay: a record's event at its box, and the answer's line at the front of the buffer.
+// One line of a replay: a record's event at its box, and the answer's line at the front of the buffer, whose length is given.
 #[tactic(auto, using(crate::proofs::Sets::call))]
-pub fn call(line: &[u8], boxes: u64, tables: &mut [u64], out: &mut [u8]) -> Called
-    ensures called { result ≡ (call line.now boxes tables.old out.old).called }
+pub fn call(
+    line: &[u8],
+    boxes: u64,
+    tables: &mut [u64],
+    out: &mut [u8],
+) -> Result<usize, CallRefusal>
+    ensures called { called_by_rules result ≡ (call line.now boxes tables.old out.old).called }
     ensures tables { tables.new ≡ (call line.now boxes tables.old out.old).tables }
     ensures buffer { out.new ≡ (call line.now boxes tables.old out.old).out }
 {
     if !tables_ok(boxes, tables) {
-        return refused(BAD_TABLES);
+        return Err(CallRefusal::BadTables);
     }
-    let reading = lines::read_record(line);
-    if reading.answer != 0 {
-        return refused(BAD_LINE);
-    }
+    let numbers = lines::read_record(line)?;
     if out.len() < LONGEST_ANSWER {
-        return refused(SHORT_BUFFER);
+        return Err(CallRefusal::ShortBuffer);
     }
-    let numbers = reading.numbers;
     let answer = on_record(boxes, tables, numbers);
-    let written = lines::write_numbers(&answer, out);
-    Called {
-        answer: 0,
-        length: written.length,
-    }
+    Ok(lines::write_numbers(&answer, out)?)
 }
 
 // The last line of a replay that a bad line stops: 8 and the line's number.
-pub fn bad_line(number: u64, out: &mut [u8]) -> lines::Written
-    ensures answer { result ≡ written_record (bad_line ∷ number ∷ []) out.old }
+pub fn bad_line(number: u64, out: &mut [u8]) -> Result<usize, ShortBuffer>
+    ensures answer { written_by_rules result ≡ written_record (bad_line ∷ number ∷ []) out.old }
     ensures buffer { out.new ≡ written_buffer (bad_line ∷ number ∷ []) out.old }
 {
-    lines::write_numbers(&[BAD_LINE, number], out)
+    lines::write_numbers(&[u64::from(CallRefusal::BadLine), number], out)
 }
 
-// The answer's number and the seven numbers of its message.
-pub fn numbers_of(answer: Answer) -> [u64; 8]
-    ensures { result ≡ numbers_of answer }
+// The answer's number and the seven numbers of its message, which are zeros where there is none.
+pub fn numbers_of(answer: Result<Option<Message>, Refusal>) -> [u64; 8]
+    ensures { result ≡ numbers_of (answer_by_rules answer) }
 {
     match answer {
-        Answer::Quiet => [0, 0, 0, 0, 0, 0, 0, 0],
-        Answer::Sends(message) => sent(message),
-        Answer::BadTable => [1, 0, 0, 0, 0, 0, 0, 0],
-        Answer::BadEvent => [2, 0, 0, 0, 0, 0, 0, 0],
-        Answer::NotWellKept => [3, 0, 0, 0, 0, 0, 0, 0],
-        Answer::NotAwaited => [4, 0, 0, 0, 0, 0, 0, 0],
-        Answer::AlreadyAgreed => [5, 0, 0, 0, 0, 0, 0, 0],
-        Answer::OtherAgreed => [6, 0, 0, 0, 0, 0, 0, 0],
-        Answer::NoBallotLeft => [7, 0, 0, 0, 0, 0, 0, 0],
+        Ok(None) => [0; 8],
+        Ok(Some(Message { to, event })) => {
+            let [kind, slot, from, ballot, second, value]: [u64; 6] = event.into();
+            [0, to, kind, slot, from, ballot, second, value]
+        }
+        Err(refusal) => [u64::from(refusal), 0, 0, 0, 0, 0, 0, 0],
     }
-}
-
-// Answer 0 and the numbers of a message.
-fn sent(message: Message) -> [u64; 8]
-    ensures { result ≡ numbers_of (Answer.Sends message) }
-{
-    let event = message.event;
-    [
-        0,
-        message.to,
-        event.kind,
-        event.slot.0,
-        event.from,
-        event.ballot.0,
-        event.second.0,
-        event.value,
-    ]
-}
-
-// Whether a line is a header.
-#[tactic(auto, unfolding(crate::specs::Header::is_header, crate::specs::Header::says_boxes))]
-fn is_header(line: &[u8]) -> bool
-    ensures { result ≡ is_header line.now }
-{
-    if line.len() != HEADER_LENGTH {
-        return false;
-    }
-    let word = (line[0] == b'b')
-        & (line[1] == b'o')
-        & (line[2] == b'x')
-        & (line[3] == b'e')
-        & (line[4] == b's');
-    let n = line[6];
-    word & (line[5] == TAB) & (b'1' <= n) & (n <= b'7') & (line[7] == NEWLINE)
 }
 
 // 1 to 7 boxes, and a table for each.
@@ -171,64 +117,31 @@ fn is_header(line: &[u8]) -> bool
 fn tables_ok(boxes: u64, tables: &[u64]) -> bool
     ensures { result ≡ tables_ok boxes tables.now }
 {
-    if boxes < 1 {
-        return false;
-    }
-    if MAX_BOXES < boxes {
-        return false;
-    }
-    tables.len() == boxes as usize * TABLE_SIZE
+    (1..=MAX_BOXES).contains(&boxes) && tables.len() == boxes as usize * TABLE_SIZE
 }
 
 // Makes one box's table fresh.
-#[tactic(auto, using(crate::proofs::Sets::fresh_table))]
 fn fresh_table(boxes: u64, index: u64, table: &mut [u64])
     requires { length table.old ≡ table_size }
     ensures { table.new ≡ fresh boxes index }
 {
-    let mut k = 0;
-    while k < TABLE_SIZE {
-        table[k] = 0;
-        k += 1;
-    }
+    table.fill(0);
     table[0] = boxes;
     table[1] = index;
 }
 
-// A refusal: nothing is written.
-fn refused(answer: u64) -> Called
-    ensures { result ≡ refusal answer }
-{
-    Called { answer, length: 0 }
-}
-
-// The event of a record.
-fn event_of(numbers: [u64; 7]) -> Event
-    ensures { result ≡ event_of numbers }
-{
-    Event {
-        kind: numbers[1],
-        slot: Slot(numbers[2]),
-        from: numbers[3],
-        ballot: Ballot(numbers[4]),
-        second: Ballot(numbers[5]),
-        value: numbers[6],
-    }
-}
-
 // A record's event at its box, where there is such a box.
-#[tactic(auto, using(crate::proofs::Answered::no_box))]
+#[tactic(auto, using(crate::proofs::Sets::on_record))]
 fn on_record(boxes: u64, tables: &mut [u64], numbers: [u64; 7]) -> [u64; 8]
-    requires { (boxes ≤ 7) × (length tables.old ≡ boxes * table_size) }
+    requires { (boxes ≤ max_boxes) × (length tables.old ≡ boxes * table_size) }
     ensures answer { result ≡ (on_record boxes tables.old numbers).numbers }
     ensures tables { tables.new ≡ (on_record boxes tables.old numbers).tables }
 {
-    let index = numbers[0];
+    let [index, kind, slot, from, ballot, second, value] = numbers;
     if boxes <= index {
-        return numbers_of(Answer::BadEvent);
+        return numbers_of(Err(Refusal::BadEvent));
     }
+    let event = Event::from([kind, slot, from, ballot, second, value]);
     let start = index as usize * TABLE_SIZE;
-    let end = start + TABLE_SIZE;
-    let answer = consensus::step(&mut tables[start..end], event_of(numbers));
-    numbers_of(answer)
+    numbers_of(consensus::step(&mut tables[start..start + TABLE_SIZE], event))
 }

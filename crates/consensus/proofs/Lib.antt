@@ -1,2 +1,3 @@
-pub mod Answered
 pub mod Restarting
+pub mod Sets
+pub mod Proposing

@@ -1,8 +1,11 @@
 -- The kinds of events, the constant table of the fields that each uses, and when an event keeps the rules.
 -- Cited by the step, which refuses an event that breaks them.
-use Rattle.std.specs.Prelude.{ℕ, ◌-◌, Bool, true, ◌&&◌, ◌||◌, not, List, [], ◌∷◌, leb, ltb, eqb, length, get_or, if◌then◌else◌}
+use Rattle.std.specs.Prelude.{◌≡◌, ℕ, ◌-◌, ◌<◌, ◌⊎◌, Result, MatchResult, Bool, true, ◌&&◌, ◌||◌, not, List, [], ◌∷◌, leb, ltb, eqb, length, get_or, if◌then◌else◌}
 use Rattle.ballots.specs.Ballot.{is_ballot, none_or_ballot, maker_of}
 use Rattle.consensus.specs.declared.Event.{Event}
+use Rattle.consensus.specs.declared.kind.Kind.{Kind}
+use Rattle.consensus.specs.declared.kind.Kind.TheVariants.{Propose, Collect, Last, Begin, Accept, Success, OldRound, Restart}
+use Rattle.consensus.specs.declared.kind.UnknownKind.{UnknownKind}
 use Rattle.consensus.specs.Room.{ballot}
 use Rattle.consensus.specs.Layout.{slots}
 use Rattle.consensus.specs.WellKept.{zero_with}
@@ -31,9 +34,32 @@ old_round = 7
 abbrev pub restart : ℕ
 restart = 8
 
+-- the number of each kind
+abbrev pub kind_number : Kind → ℕ
+kind_number Propose = propose
+kind_number Collect = collect
+kind_number Last = last
+kind_number Begin = begin
+kind_number Accept = accept
+kind_number Success = success
+kind_number OldRound = old_round
+kind_number Restart = restart
+
+-- the kind of this number, or the number itself where it is no kind's
+abbrev pub KindOf : ℕ → Result Kind UnknownKind → Type 0
+KindOf n r = MatchResult r (λ k. kind_number k ≡ n) (λ e. (e.0 ≡ n) × ((n < propose) ⊎ (restart < n)))
+
+-- the event, taken for one of this kind whatever its own number is
+abbrev pub of_kind : Kind → Event → Event
+of_kind k e = record e { kind = kind_number k }
+
 -- an event of six numbers
 abbrev pub event : ℕ → ℕ → ℕ → ℕ → ℕ → ℕ → Event
 event k s f b b₂ v = record { kind = k; slot = record { 0 = s }; from = f; ballot = ballot b; second = ballot b₂; value = v }
+
+-- the event of the six numbers of a list: kind, slot, from, ballot, second, value
+abbrev pub event_of : List ℕ → Event
+event_of n = event (get_or n 0 0) (get_or n 1 0) (get_or n 2 0) (get_or n 3 0) (get_or n 4 0) (get_or n 5 0)
 
 -- "The fields used by each kind form a constant table": slot, from, ballot, second, value
 abbrev pub used : List (List ℕ)

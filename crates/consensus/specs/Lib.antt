@@ -4,6 +4,7 @@ pub mod Enough
 pub mod WellKept
 pub mod Events
 pub mod Answers
+pub mod AnswersLaws
 pub mod OnSlot
 pub mod Step
 pub mod StepLaws

@@ -1,19 +1,28 @@
 -- What each kind of event does to its slot: one definition for each bullet of the rules' step.
 -- h is the box's head, r the slot's room, e an event that keeps the rules. Cited by the step on tables.
-use Rattle.std.specs.Prelude.{ℕ, max, Bool, not, ◌&&◌, ltb, eqb, if◌then◌else◌}
+use Rattle.std.specs.Prelude.{ℕ, max, Option, Result, Ok, Err, Bool, not, ◌&&◌, ltb, eqb, if◌then◌else◌}
 use Rattle.ballots.specs.Ballot.{max_x, next_x, next_ballot}
 use Rattle.ballots.specs.Boxes.{holds_box, with_box}
 use Rattle.consensus.specs.declared.Head.{Head}
 use Rattle.consensus.specs.declared.Vote.{Vote}
 use Rattle.consensus.specs.declared.Room.{Room}
 use Rattle.consensus.specs.declared.Event.{Event}
-use Rattle.consensus.specs.declared.Answer.{Answer}
-use Rattle.consensus.specs.declared.Answer.TheVariants.{Quiet, Sends, NotAwaited, AlreadyAgreed, OtherAgreed, NoBallotLeft}
-use Rattle.consensus.specs.declared.Outcome.{Outcome}
-use Rattle.consensus.specs.declared.Outcome.TheVariants.{Becomes, Refused}
+use Rattle.consensus.specs.declared.Message.{Message}
+use Rattle.consensus.specs.declared.refusal.Refusal.{Refusal}
+use Rattle.consensus.specs.Answers.{Answer, Quiet, Sends, NotAwaited, AlreadyAgreed, OtherAgreed, NoBallotLeft, message_by_rules, refusal_by_rules}
 use Rattle.consensus.specs.Room.{promised, accepted_ballot, accepted_value, phase, own_ballot, own_value, best_ballot, lasts, accepts, agreed, idle, collecting, begun, vote, saved, round, room, no_vote, no_round}
 use Rattle.consensus.specs.Enough.{enough_to_collect, enough_to_begin}
 use Rattle.consensus.specs.Events.{propose, collect, last, begin, accept, success, old_round, event}
+
+-- what an event does to its slot: new numbers and an answer, or a refusal that leaves all as it was
+pub data Outcome : Type 0 where
+  Becomes : (r : Room) (a : Answer) → Outcome
+  Refused : (a : Answer) → Outcome
+
+-- the rules' outcome for what the code gives, case by case: the contracts speak of the code's results through it
+abbrev pub outcome_by_rules : Result (Room × Option Message) Refusal → Outcome
+outcome_by_rules (Ok x) = Becomes x.0 (message_by_rules x.1)
+outcome_by_rules (Err e) = Refused (refusal_by_rules e)
 
 -- "7 for all boxes, the sender included"
 abbrev pub all_boxes : ℕ

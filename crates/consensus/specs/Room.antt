@@ -6,6 +6,8 @@ use Rattle.consensus.specs.declared.Vote.{Vote}
 use Rattle.consensus.specs.declared.Saved.{Saved}
 use Rattle.consensus.specs.declared.Round.{Round}
 use Rattle.consensus.specs.declared.Room.{Room}
+use Rattle.consensus.specs.declared.phase.Phase.{Phase}
+use Rattle.consensus.specs.declared.phase.Phase.TheVariants.{Idle, Collecting, Begun}
 
 -- "0 promised ballot; 1 accepted ballot; 2 accepted value;
 abbrev pub promised : Room → ℕ
@@ -52,6 +54,12 @@ collecting = 1
 
 abbrev pub begun : ℕ
 begun = 2
+
+-- the number of each phase
+abbrev pub phase_number : Phase → ℕ
+phase_number Idle = idle
+phase_number Collecting = collecting
+phase_number Begun = begun
 
 abbrev pub ballot : ℕ → Ballot
 ballot b = record { 0 = b }

@@ -3,15 +3,12 @@
 use Rattle.std.specs.Prelude.{ℕ, zero, suc, Bool, true, not, ◌&&◌, List, leb, ltb, eqb, length, if◌then◌else◌}
 use Rattle.ballots.specs.Ballot.{max_boxes}
 use Rattle.consensus.specs.declared.Event.{Event}
-use Rattle.consensus.specs.declared.Answer.{Answer}
-use Rattle.consensus.specs.declared.Answer.TheVariants.{Quiet, BadTable, BadEvent, NotWellKept}
-use Rattle.consensus.specs.declared.Outcome.{Outcome}
-use Rattle.consensus.specs.declared.Outcome.TheVariants.{Becomes, Refused}
 use Rattle.consensus.specs.Room.{agreed}
 use Rattle.consensus.specs.Layout.{slots, table_size, head_of, room_at, with_room}
 use Rattle.consensus.specs.WellKept.{saved_kept, well_kept}
 use Rattle.consensus.specs.Events.{restart, event_ok}
-use Rattle.consensus.specs.OnSlot.{on_slot, restarted}
+use Rattle.consensus.specs.Answers.{Answer, Quiet, BadTable, BadEvent, NotWellKept}
+use Rattle.consensus.specs.OnSlot.{Outcome, Becomes, Refused, on_slot, restarted}
 
 -- the table after a call, and the call's answer
 pub record Stepped : Type 0 where

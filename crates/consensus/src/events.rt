@@ -1,30 +1,51 @@
-// The kinds of events, the fields that each uses, and when an event keeps the rules.
-// Relies on specs/Events.antt, which has a definition for each function here. Cited by the step.
-ghost use Rattle.std.specs.Prelude.{◌≡◌, ◌<◌, ◌≤◌};
-ghost use Rattle.consensus.specs.Events.{field_ok, second_ok, value_ok, maker_ok, fields_ok, event_ok};
+// An event and its six numbers; the kind of an event that keeps the rules: the fields that each kind uses, and each field's own rule.
+// Relies on specs/Events.antt, which has a definition for each test here and `event_ok` for them all, and on specs/Answers.antt for an
+// event's numbers.
+// Cited by the step.
+ghost use Rattle.std.specs.Prelude.{◌≡◌, eqb, if◌then◌else◌, true, false, MatchOption};
+ghost use Rattle.consensus.specs.Answers.{event_numbers};
+ghost use Rattle.consensus.specs.Events.{event_of, of_kind, kind_number, second_ok, value_ok, maker_ok, fields_ok, event_ok};
 
-use super::Event;
 use super::kept::{none_or_ballot, zero_with};
 use super::layout::SLOTS;
-use ballots::{is_ballot, maker_of};
+use super::{Event, Kind};
+use ballots::{Ballot, Slot, is_ballot, maker_of};
 
-pub const PROPOSE: u64 = 1;
+// The event of its six numbers: kind, slot, from, ballot, second, value.
+impl From<[u64; 6]> for Event {
+    ghost from_gives = { λ numbers event. event ≡ event_of numbers };
 
-pub const COLLECT: u64 = 2;
+    fn from(numbers: [u64; 6]) -> Event {
+        let [kind, slot, from, ballot, second, value] = numbers;
+        Event {
+            kind,
+            slot: Slot(slot),
+            from,
+            ballot: Ballot(ballot),
+            second: Ballot(second),
+            value,
+        }
+    }
+}
 
-pub const LAST: u64 = 3;
+// The six numbers of an event, in the same order.
+impl From<Event> for [u64; 6] {
+    ghost from_gives = { λ event numbers. numbers ≡ event_numbers event };
 
-pub const BEGIN: u64 = 4;
+    fn from(event: Event) -> [u64; 6] {
+        let Event {
+            kind,
+            slot,
+            from,
+            ballot,
+            second,
+            value,
+        } = event;
+        [kind, slot.0, from, ballot.0, second.0, value]
+    }
+}
 
-pub const ACCEPT: u64 = 5;
-
-pub const SUCCESS: u64 = 6;
-
-pub const OLD_ROUND: u64 = 7;
-
-pub const RESTART: u64 = 8;
-
-// The fields used by each kind, from Propose to Restart: slot, from, ballot, second, value.
+// The fields used by each kind, from Propose to Restart: slot, from, ballot, second, value. Ones and zeros, as the rules print the table.
 const USED: [[u8; 5]; 8] = [
     [1, 0, 0, 0, 1],
     [1, 1, 1, 0, 0],
@@ -37,82 +58,69 @@ const USED: [[u8; 5]; 8] = [
 ];
 
 // A field that holds x keeps its rule if its kind uses it, and is zero if not.
-#[tactic(auto, unfolding(crate::specs::Events::field_ok))]
-fn field_ok(kind: usize, field: usize, x: u64, rule: bool) -> bool
-    requires { (1 ≤ kind) × (kind ≤ 8) × (field < 5) }
-    ensures { result ≡ field_ok kind field x rule }
+fn field_ok(used: u8, x: u64, rule: bool) -> bool
+    ensures { result ≡ (if eqb used 1 then rule else eqb x 0) }
 {
-    let row = kind - 1;
-    if USED[row][field] == 1 { rule } else { x == 0 }
+    if used == 1 { rule } else { x == 0 }
 }
 
-// In Last, second is zero or a ballot, at most ballot; in OldRound a ballot above ballot.
+// In Last, second is zero or a ballot, at most ballot; in OldRound a ballot above ballot. Here and below, the event is taken for
+// one of `kind`.
 #[tactic(auto, unfolding(crate::specs::Events::second_ok))]
-fn second_ok(boxes: u64, event: Event) -> bool
-    ensures { result ≡ second_ok boxes event }
+fn second_ok(boxes: u64, kind: Kind, event: Event) -> bool
+    ensures { result ≡ second_ok boxes (of_kind kind event) }
 {
-    let ballot = event.ballot;
-    let second = event.second;
-    if event.kind == LAST {
-        none_or_ballot(boxes, second) & (second.0 <= ballot.0)
-    } else {
-        is_ballot(boxes, second) & (ballot.0 < second.0)
+    match kind {
+        Kind::Last => none_or_ballot(boxes, event.second) & (event.second <= event.ballot),
+        _ => is_ballot(boxes, event.second) & (event.ballot < event.second),
     }
 }
 
 // A value is not zero; in Last it is zero exactly if second is.
 #[tactic(auto, unfolding(crate::specs::Events::value_ok))]
-fn value_ok(event: Event) -> bool
-    ensures { result ≡ value_ok event }
+fn value_ok(kind: Kind, event: Event) -> bool
+    ensures { result ≡ value_ok (of_kind kind event) }
 {
-    let second = event.second;
-    if event.kind == LAST {
-        zero_with(event.value, second.0)
-    } else {
-        event.value != 0
+    match kind {
+        Kind::Last => zero_with(event.value, event.second.0),
+        _ => event.value != 0,
     }
 }
 
 // In Collect and Begin, from made the ballot.
 #[tactic(auto, unfolding(crate::specs::Events::maker_ok))]
-fn maker_ok(event: Event) -> bool
-    ensures { result ≡ maker_ok event }
+fn maker_ok(kind: Kind, event: Event) -> bool
+    ensures { result ≡ maker_ok (of_kind kind event) }
 {
-    let ballot = event.ballot;
-    if (event.kind == COLLECT) | (event.kind == BEGIN) {
-        maker_of(ballot) == event.from
-    } else {
-        true
+    match kind {
+        Kind::Collect | Kind::Begin => maker_of(event.ballot) == event.from,
+        _ => true,
     }
 }
 
-// The fields of an event of a kind that exists keep their rules.
-#[tactic(auto, unfolding(crate::specs::Events::fields_ok))]
-fn fields_ok(boxes: u64, event: Event) -> bool
-    requires { (1 ≤ event.kind) × (event.kind ≤ 8) }
-    ensures { result ≡ fields_ok boxes event }
+// The fields of an event of this kind keep their rules.
+#[tactic(auto, unfolding(crate::specs::Events::fields_ok, crate::specs::Events::field_ok))]
+fn fields_ok(boxes: u64, kind: Kind, event: Event) -> bool
+    ensures { result ≡ fields_ok boxes (of_kind kind event) }
 {
-    let kind = event.kind as usize;
-    let slot = event.slot;
-    let ballot = event.ballot;
-    let second = event.second;
-    field_ok(kind, 0, slot.0, slot.0 < SLOTS)
-        & field_ok(kind, 1, event.from, event.from < boxes)
-        & field_ok(kind, 2, ballot.0, is_ballot(boxes, ballot))
-        & field_ok(kind, 3, second.0, second_ok(boxes, event))
-        & field_ok(kind, 4, event.value, value_ok(event))
+    let [slot, from, ballot, second, value] = USED[kind as usize - 1];
+    field_ok(slot, event.slot.0, event.slot < Slot(SLOTS))
+        & field_ok(from, event.from, event.from < boxes)
+        & field_ok(ballot, event.ballot.0, is_ballot(boxes, event.ballot))
+        & field_ok(second, event.second.0, second_ok(boxes, kind, event))
+        & field_ok(value, event.value, value_ok(kind, event))
 }
 
-// An event keeps the rules for this many boxes.
+// The kind of an event that keeps the rules for this many boxes; None for an event that breaks them.
 #[tactic(auto, unfolding(crate::specs::Events::event_ok, crate::specs::Events::kind_ok))]
-pub fn event_ok(boxes: u64, event: Event) -> bool
-    ensures { result ≡ event_ok boxes event }
+pub fn kind_of(boxes: u64, event: Event) -> Option<Kind>
+    ensures { MatchOption result (event_ok boxes event ≡ false)
+        (λ kind. (event_ok boxes event ≡ true) × (kind_number kind ≡ event.kind)) }
 {
-    if event.kind < PROPOSE {
-        return false;
+    let kind = Kind::try_from(event.kind).ok()?;
+    if fields_ok(boxes, kind, event) & maker_ok(kind, event) {
+        Some(kind)
+    } else {
+        None
     }
-    if RESTART < event.kind {
-        return false;
-    }
-    fields_ok(boxes, event) & maker_ok(event)
 }

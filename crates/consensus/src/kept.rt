@@ -1,22 +1,17 @@
-// When a slot is well kept. Relies on specs/WellKept.antt, which has a definition for each function here.
-// Cited by the step, which refuses a slot that is not.
+// When a slot is well kept. Relies on specs/WellKept.antt, which has a definition for each function here, of the head and the room
+// as here: a struct for the two would be one more name and no fact. Cited by the step, which refuses a slot that is not.
 ghost use Rattle.std.specs.Prelude.{◌≡◌};
 ghost use Rattle.ballots.specs.Ballot.{none_or_ballot};
 ghost use Rattle.consensus.specs.Enough.{enough_to_collect, enough_to_begin};
 ghost use Rattle.consensus.specs.WellKept.{zero_with, saved_kept, round_kept, idle_kept, running_kept, collecting_kept, begun_kept, phase_kept, well_kept, set_ok};
 
-use super::{Head, Room};
+use super::phase::Phase;
+use super::{Head, Room, Saved, Vote};
 use ballots::boxes::is_majority;
 use ballots::{Ballot, is_ballot, maker_of};
 
-// The phases of a round.
-pub const IDLE: u64 = 0;
-
-pub const COLLECTING: u64 = 1;
-
-pub const BEGUN: u64 = 2;
-
-// Whether the boxes that sent Last are enough to close a Collect.
+// Whether the boxes that sent Last are enough to close a Collect. This and the next are two functions and no parameter, since each is held
+// to a definition of its own, of which theorems speak.
 #[tactic(auto, unfolding(crate::specs::Enough::enough_to_collect))]
 pub fn enough_to_collect(head: Head, set: u64) -> bool
     ensures { result ≡ enough_to_collect head set }
@@ -37,25 +32,25 @@ pub fn enough_to_begin(head: Head, set: u64) -> bool
 pub fn none_or_ballot(boxes: u64, b: Ballot) -> bool
     ensures { result ≡ none_or_ballot boxes b.0 }
 {
-    (b.0 == 0) | is_ballot(boxes, b)
+    (b == Ballot(0)) | is_ballot(boxes, b)
 }
 
 // One number is zero exactly if the other is.
 pub fn zero_with(a: u64, b: u64) -> bool
     ensures { result ≡ zero_with a b }
 {
-    if a == 0 { b == 0 } else { b != 0 }
+    (a == 0) == (b == 0)
 }
 
 // A set has no bit at N or above.
+#[tactic(auto, using(crate::proofs::Sets::word_below))]
 fn set_ok(head: Head, set: u64) -> bool
     ensures { result ≡ set_ok head set }
 {
-    let boxes = head.boxes;
-    if 64 <= boxes {
+    if 64 <= head.boxes {
         return true;
     }
-    set < (1u64 << boxes)
+    set < (1u64 << head.boxes)
 }
 
 // Numbers 0 to 2 keep their rules.
@@ -63,14 +58,11 @@ fn set_ok(head: Head, set: u64) -> bool
 pub fn saved_kept(head: Head, room: Room) -> bool
     ensures { result ≡ saved_kept head room }
 {
-    let saved = room.saved;
-    let promised = saved.promised;
-    let accepted = saved.accepted;
-    let ballot = accepted.ballot;
+    let Saved { promised, accepted } = room.saved;
     none_or_ballot(head.boxes, promised)
-        & none_or_ballot(head.boxes, ballot)
-        & (ballot.0 <= promised.0)
-        & zero_with(accepted.value, ballot.0)
+        & none_or_ballot(head.boxes, accepted.ballot)
+        & (accepted.ballot <= promised)
+        & zero_with(accepted.value, accepted.ballot.0)
 }
 
 // Own and best ballot, the two sets and the phase are in range.
@@ -79,15 +71,11 @@ fn round_kept(head: Head, room: Room) -> bool
     ensures { result ≡ round_kept head room }
 {
     let round = room.round;
-    let own = round.own;
-    let best = round.best;
-    let own_ballot = own.ballot;
-    let best_ballot = best.ballot;
-    none_or_ballot(head.boxes, own_ballot)
-        & none_or_ballot(head.boxes, best_ballot)
+    none_or_ballot(head.boxes, round.own.ballot)
+        & none_or_ballot(head.boxes, round.best.ballot)
         & set_ok(head, round.lasts)
         & set_ok(head, round.accepts)
-        & (round.phase <= BEGUN)
+        & (round.phase <= u64::from(Phase::Begun))
 }
 
 // Idle: numbers 4 to 9 are zero.
@@ -96,14 +84,8 @@ fn idle_kept(room: Room) -> bool
     ensures { result ≡ idle_kept room }
 {
     let round = room.round;
-    let own = round.own;
-    let best = round.best;
-    let own_ballot = own.ballot;
-    let best_ballot = best.ballot;
-    (own_ballot.0 == 0)
-        & (own.value == 0)
-        & (best_ballot.0 == 0)
-        & (best.value == 0)
+    (round.own == Vote::default())
+        & (round.best == Vote::default())
         & (round.lasts == 0)
         & (round.accepts == 0)
 }
@@ -113,14 +95,10 @@ fn idle_kept(room: Room) -> bool
 fn running_kept(head: Head, room: Room) -> bool
     ensures { result ≡ running_kept head room }
 {
-    let saved = room.saved;
-    let promised = saved.promised;
-    let round = room.round;
-    let own = round.own;
-    let ballot = own.ballot;
-    is_ballot(head.boxes, ballot)
-        & (maker_of(ballot) == head.index)
-        & (ballot.0 <= promised.0)
+    let own = room.round.own;
+    is_ballot(head.boxes, own.ballot)
+        & (maker_of(own.ballot) == head.index)
+        & (own.ballot <= room.saved.promised)
         & (own.value != 0)
         & (room.agreed == 0)
 }
@@ -131,12 +109,8 @@ fn collecting_kept(head: Head, room: Room) -> bool
     ensures { result ≡ collecting_kept head room }
 {
     let round = room.round;
-    let own = round.own;
-    let best = round.best;
-    let own_ballot = own.ballot;
-    let best_ballot = best.ballot;
-    (best_ballot.0 <= own_ballot.0)
-        & zero_with(best.value, best_ballot.0)
+    (round.best.ballot <= round.own.ballot)
+        & zero_with(round.best.value, round.best.ballot.0)
         & (round.accepts == 0)
         & !enough_to_collect(head, round.lasts)
 }
@@ -147,9 +121,7 @@ fn begun_kept(head: Head, room: Room) -> bool
     ensures { result ≡ begun_kept head room }
 {
     let round = room.round;
-    let best = round.best;
-    let ballot = best.ballot;
-    (ballot.0 == 0) & (best.value == 0) & (round.lasts == 0) & !enough_to_begin(head, round.accepts)
+    (round.best == Vote::default()) & (round.lasts == 0) & !enough_to_begin(head, round.accepts)
 }
 
 // What a slot's phase asks of its numbers.
@@ -157,11 +129,11 @@ fn begun_kept(head: Head, room: Room) -> bool
 fn phase_kept(head: Head, room: Room) -> bool
     ensures { result ≡ phase_kept head room }
 {
-    let round = room.round;
-    if round.phase == IDLE {
+    let phase = room.round.phase;
+    if phase == u64::from(Phase::Idle) {
         return idle_kept(room);
     }
-    if round.phase == COLLECTING {
+    if phase == u64::from(Phase::Collecting) {
         return running_kept(head, room) & collecting_kept(head, room);
     }
     running_kept(head, room) & begun_kept(head, room)

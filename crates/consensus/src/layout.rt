@@ -1,7 +1,9 @@
 // Where each number of a table stands. Nothing but this file knows 2, 11, 64 or 706.
-// Relies on specs/Layout.antt. Cited by the event check, the restart and the step.
+// Relies on specs/Layout.antt. Cited by the event check, the restart and the step. The rules ask for a lent slice, read and written at
+// stated places: so its length is a clause and no array's type, and a number is `table[at + k]` and no part of an array copied out or in.
+// Any slot number may be asked for, so its bound is a clause too, here and in the restart and the step.
 ghost use Rattle.std.specs.Prelude.{◌≡◌, ◌<◌, ◌≤◌, length};
-ghost use Rattle.consensus.specs.Layout.{head_size, slots, table_size, head_of, room_at, with_room};
+ghost use Rattle.consensus.specs.Layout.{head_size, slots, table_size, head_of, room_start, room_at, with_room};
 
 use super::{Head, Room, Round, Saved, Vote};
 use ballots::{Ballot, Slot};
@@ -12,7 +14,8 @@ const ROOM_SIZE: usize = 11;
 
 pub const SLOTS: u64 = 64;
 
-pub const TABLE_SIZE: usize = 706;
+// 706 numbers: the head, and a room for each slot.
+pub const TABLE_SIZE: usize = HEAD_SIZE + SLOTS as usize * ROOM_SIZE;
 
 // The box count and the box's own index.
 pub fn head_of(table: &[u64]) -> Head
@@ -25,33 +28,38 @@ pub fn head_of(table: &[u64]) -> Head
     }
 }
 
+// Where the numbers of a slot begin.
+fn room_start(slot: Slot) -> usize
+    requires { slot.0 < slots }
+    ensures { result ≡ room_start slot.0 }
+{
+    HEAD_SIZE + slot.0 as usize * ROOM_SIZE
+}
+
 // The eleven numbers of a slot.
 pub fn room_at(table: &[u64], slot: Slot) -> Room
     requires { (length table.now ≡ table_size) × (slot.0 < slots) }
     ensures { result ≡ room_at table.now slot.0 }
 {
-    let at = HEAD_SIZE + slot.0 as usize * ROOM_SIZE;
-    let accepted = Vote {
-        ballot: Ballot(table[at + 1]),
-        value: table[at + 2],
-    };
-    let own = Vote {
-        ballot: Ballot(table[at + 4]),
-        value: table[at + 5],
-    };
-    let best = Vote {
-        ballot: Ballot(table[at + 6]),
-        value: table[at + 7],
-    };
+    let at = room_start(slot);
     Room {
         saved: Saved {
             promised: Ballot(table[at + 0]),
-            accepted: accepted,
+            accepted: Vote {
+                ballot: Ballot(table[at + 1]),
+                value: table[at + 2],
+            },
         },
         round: Round {
             phase: table[at + 3],
-            own: own,
-            best: best,
+            own: Vote {
+                ballot: Ballot(table[at + 4]),
+                value: table[at + 5],
+            },
+            best: Vote {
+                ballot: Ballot(table[at + 6]),
+                value: table[at + 7],
+            },
             lasts: table[at + 8],
             accepts: table[at + 9],
         },
@@ -64,25 +72,16 @@ pub fn put_room(table: &mut [u64], slot: Slot, room: Room)
     requires { (length table.old ≡ table_size) × (slot.0 < slots) }
     ensures { table.new ≡ with_room table.old slot.0 room }
 {
-    let at = HEAD_SIZE + slot.0 as usize * ROOM_SIZE;
-    let saved = room.saved;
-    let promised = saved.promised;
-    let accepted = saved.accepted;
-    let accepted_ballot = accepted.ballot;
-    let round = room.round;
-    let own = round.own;
-    let own_ballot = own.ballot;
-    let best = round.best;
-    let best_ballot = best.ballot;
-    table[at + 0] = promised.0;
-    table[at + 1] = accepted_ballot.0;
-    table[at + 2] = accepted.value;
-    table[at + 3] = round.phase;
-    table[at + 4] = own_ballot.0;
-    table[at + 5] = own.value;
-    table[at + 6] = best_ballot.0;
-    table[at + 7] = best.value;
-    table[at + 8] = round.lasts;
-    table[at + 9] = round.accepts;
+    let at = room_start(slot);
+    table[at + 0] = room.saved.promised.0;
+    table[at + 1] = room.saved.accepted.ballot.0;
+    table[at + 2] = room.saved.accepted.value;
+    table[at + 3] = room.round.phase;
+    table[at + 4] = room.round.own.ballot.0;
+    table[at + 5] = room.round.own.value;
+    table[at + 6] = room.round.best.ballot.0;
+    table[at + 7] = room.round.best.value;
+    table[at + 8] = room.round.lasts;
+    table[at + 9] = room.round.accepts;
     table[at + 10] = room.agreed;
 }

@@ -4,51 +4,57 @@
 
 ghost use Rattle.std.specs.Prelude.{◌≡◌, ◌<◌, ◌≤◌, length};
 ghost use Rattle.ballots.specs.Ballot.{max_boxes};
+ghost use Rattle.consensus.specs.Answers.{answer_by_rules};
+ghost use Rattle.consensus.specs.Events.{kind_number};
 ghost use Rattle.consensus.specs.Layout.{slots, table_size, head_of};
 ghost use Rattle.consensus.specs.Step.{table_ok, agreed_at, on_event, step};
 
 use ballots::{Ballot, MAX_BOXES, Slot};
-use events::{RESTART, event_ok};
+use events::kind_of;
 use kept::well_kept;
 use layout::{head_of, put_room, room_at};
 use on_slot::on_slot;
+use on_slot::turn::Turn;
 use restart::on_restart;
 
-mod events; // events.rt: when an event keeps the rules
+mod events; // events.rt: when an event keeps the rules, and its kind
 mod kept; // kept.rt: when a slot is well kept
+mod kind; // kind.rt: the kinds of events
 mod layout; // layout.rt: where each number of a table stands
 mod on_slot; // on_slot.rt: what each kind of event does to its slot
+mod phase; // phase.rt: the phases of a round
+mod refusal; // refusal.rt: why a step is refused
 mod restart; // restart.rt: what a restart does to a table
 
-// The slots of a table, from 0 on, and the numbers that it has.
-pub const SLOTS: u64 = layout::SLOTS;
-
-pub const TABLE_SIZE: usize = layout::TABLE_SIZE;
+pub use kind::{Kind, UnknownKind};
+pub use layout::{SLOTS, TABLE_SIZE};
+pub use refusal::Refusal;
 
 // Numbers 0 and 1 of a table: the box count N and the box's own index.
-#[derive(Clone, Copy)]
+#[derive(Clone, Copy, Debug, PartialEq, Eq, Hash)]
 pub struct Head {
     pub boxes: u64,
     pub index: u64,
 }
 
-// A ballot and the value that goes with it; both zero where there is none.
-#[derive(Clone, Copy)]
+// A ballot and the value that goes with it: both zero where there is none, as the rules have it.
+#[derive(Clone, Copy, Debug, Default, PartialEq, Eq, Hash)]
 pub struct Vote {
     pub ballot: Ballot,
     pub value: u64,
 }
 
 // Numbers 0 to 2 of a slot, which a restart keeps.
-#[derive(Clone, Copy)]
+#[derive(Clone, Copy, Debug, PartialEq, Eq, Hash)]
 pub struct Saved {
     pub promised: Ballot,
     pub accepted: Vote,
 }
 
 // Numbers 3 to 9 of a slot: the round that this box runs.
-#[derive(Clone, Copy)]
+#[derive(Clone, Copy, Debug, Default, PartialEq, Eq, Hash)]
 pub struct Round {
+    // any number may stand in a table: only a well kept slot's is a phase's
     pub phase: u64,
     pub own: Vote,
     pub best: Vote,
@@ -57,15 +63,15 @@ pub struct Round {
 }
 
 // The eleven numbers of a slot.
-#[derive(Clone, Copy)]
+#[derive(Clone, Copy, Debug, PartialEq, Eq, Hash)]
 pub struct Room {
     pub saved: Saved,
     pub round: Round,
     pub agreed: u64,
 }
 
-// The six numbers of an event, and of a message on its way.
-#[derive(Clone, Copy)]
+// The six numbers of an event, and of a message on its way. Any number may come in as the kind: `Kind::try_from` sorts out which are a kind's.
+#[derive(Clone, Copy, Debug, PartialEq, Eq, Hash)]
 pub struct Event {
     pub kind: u64,
     pub slot: Slot,
@@ -75,32 +81,12 @@ pub struct Event {
     pub value: u64,
 }
 
-// A message out: a destination (an index, or 7 for all boxes) and six numbers.
-#[derive(Clone, Copy)]
+// A message out: a destination and six numbers.
+#[derive(Clone, Copy, Debug, PartialEq, Eq, Hash)]
 pub struct Message {
+    // an index, or 7 for all boxes: a number, as the rules have it
     pub to: u64,
     pub event: Event,
-}
-
-// What a step answers; `numbers_of` gives the rules' number and the message's seven for each case.
-#[derive(Clone, Copy)]
-pub enum Answer {
-    Quiet,
-    Sends(Message),
-    BadTable,
-    BadEvent,
-    NotWellKept,
-    NotAwaited,
-    AlreadyAgreed,
-    OtherAgreed,
-    NoBallotLeft,
-}
-
-// What an event does to its slot: new numbers and an answer, or a refusal that leaves all as it was.
-#[derive(Clone, Copy)]
-pub enum Outcome {
-    Becomes(Room, Answer),
-    Refused(Answer),
 }
 
 // A table of the right length, with a box count from 1 to 7 and an index below it.
@@ -115,7 +101,7 @@ pub fn table_ok(table: &[u64]) -> bool
     (1 <= head.boxes) & (head.boxes <= MAX_BOXES) & (head.index < head.boxes)
 }
 
-// What a slot has agreed: zero for nothing, and where the table is bad or has no such slot.
+// What a slot has agreed: zero for nothing, as the rules have it, and where the table is bad or has no such slot.
 #[tactic(auto, using(crate::specs::StepLaws::table_clauses), unfolding(crate::specs::Step::agreed_at))]
 pub fn agreed_at(table: &[u64], slot: Slot) -> u64
     ensures { result ≡ agreed_at table.now slot.0 }
@@ -123,48 +109,47 @@ pub fn agreed_at(table: &[u64], slot: Slot) -> u64
     if !table_ok(table) {
         return 0;
     }
-    if SLOTS <= slot.0 {
+    if Slot(SLOTS) <= slot {
         return 0;
     }
-    let room = room_at(table, slot);
-    room.agreed
+    room_at(table, slot).agreed
 }
 
 // An event that names a slot: refused, with nothing written, where the slot is not well kept or the event is not for it.
-fn on_event(table: &mut [u64], event: Event) -> Answer
-    requires { (length table.old ≡ table_size) × (event.slot.0 < slots) × ((head_of table.old).index < max_boxes) }
-    ensures answer { result ≡ (on_event table.old event).answer }
+#[tactic(auto, unfolding(crate::specs::Step::on_event))]
+fn on_event(table: &mut [u64], kind: Kind, event: Event) -> Result<Option<Message>, Refusal>
+    requires table { (length table.old ≡ table_size) × (event.slot.0 < slots) × ((head_of table.old).index < max_boxes) }
+    requires kind { kind_number kind ≡ event.kind }
+    ensures answer { answer_by_rules result ≡ (on_event table.old event).answer }
     ensures table { table.new ≡ (on_event table.old event).table }
 {
-    let slot = event.slot;
     let head = head_of(table);
-    let room = room_at(table, slot);
+    let room = room_at(table, event.slot);
     if !well_kept(head, room) {
-        return Answer::NotWellKept;
+        return Err(Refusal::NotWellKept);
     }
-    match on_slot(head, room, event) {
-        Outcome::Refused(answer) => answer,
-        Outcome::Becomes(next, answer) => {
-            put_room(table, slot, next);
-            answer
-        }
-    }
+    let (next, message) = on_slot(Turn {
+        head,
+        room,
+        kind,
+        event,
+    })?;
+    put_room(table, event.slot, next);
+    Ok(message)
 }
 
-// One event on a lent table.
-pub fn step(table: &mut [u64], event: Event) -> Answer
-    ensures answer { result ≡ (step table.old event).answer }
+// One event on a lent table: the new table and at most one message, or a refusal that leaves the table as it was.
+#[tactic(auto, using(crate::specs::StepLaws::table_clauses, crate::specs::StepLaws::names_a_slot), unfolding(crate::specs::Step::step))]
+pub fn step(table: &mut [u64], event: Event) -> Result<Option<Message>, Refusal>
+    ensures answer { answer_by_rules result ≡ (step table.old event).answer }
     ensures table { table.new ≡ (step table.old event).table }
 {
     if !table_ok(table) {
-        return Answer::BadTable;
+        return Err(Refusal::BadTable);
     }
-    let head = head_of(table);
-    if !event_ok(head.boxes, event) {
-        return Answer::BadEvent;
+    let kind = kind_of(head_of(table).boxes, event).ok_or(Refusal::BadEvent)?;
+    match kind {
+        Kind::Restart => on_restart(table),
+        _ => on_event(table, kind, event),
     }
-    if event.kind == RESTART {
-        return on_restart(table);
-    }
-    on_event(table, event)
 }

@@ -1,11 +1,9 @@
 // What each kind of event does to its slot: a module for each bullet of the rules' step.
-// Relies on specs/OnSlot.antt, which has a definition for each function. Cited by the step and the restart.
-ghost use Rattle.std.specs.Prelude.{◌≡◌, ◌<◌};
-ghost use Rattle.ballots.specs.Ballot.{max_boxes};
-ghost use Rattle.consensus.specs.OnSlot.{on_slot};
+// Relies on specs/OnSlot.antt, which has a definition for each function. Cited by the step.
+ghost use Rattle.std.specs.Prelude.{◌≡◌};
+ghost use Rattle.consensus.specs.OnSlot.{outcome_by_rules, on_slot};
 
-use super::events::{ACCEPT, BEGIN, COLLECT, LAST, PROPOSE, SUCCESS};
-use super::{Event, Head, Outcome, Room};
+use super::{Kind, Message, Refusal, Room};
 use accept::on_accept;
 use begin::on_begin;
 use collect::on_collect;
@@ -13,32 +11,33 @@ use last::on_last;
 use old_round::on_old_round;
 use propose::on_propose;
 use success::on_success;
+use turn::Turn;
 
 mod accept;
-mod awaited;
 mod begin;
 mod collect;
 mod last;
-mod message;
-pub mod nothing;
 mod old_round;
 mod propose;
 mod success;
+pub mod turn;
+
+// What an event does to its slot: new numbers and at most one message, or a refusal that leaves all as it was.
+pub type Outcome = Result<(Room, Option<Message>), Refusal>;
 
 // An event of any kind that names a slot.
 #[tactic(auto, unfolding(crate::specs::OnSlot::on_slot))]
-pub fn on_slot(head: Head, room: Room, event: Event) -> Outcome
-    requires { head.index < max_boxes }
-    ensures { result ≡ on_slot head room event }
+pub fn on_slot(turn: Turn) -> Outcome
+    ensures { outcome_by_rules result ≡ on_slot turn.head turn.room turn.event }
 {
-    let kind = event.kind;
-    match kind {
-        PROPOSE => on_propose(head, room, event),
-        COLLECT => on_collect(head, room, event),
-        LAST => on_last(head, room, event),
-        BEGIN => on_begin(head, room, event),
-        ACCEPT => on_accept(head, room, event),
-        SUCCESS => on_success(head, room, event),
-        _ => on_old_round(head, room, event),
+    match turn.kind {
+        Kind::Propose => on_propose(turn),
+        Kind::Collect => on_collect(turn),
+        Kind::Last => on_last(turn),
+        Kind::Begin => on_begin(turn),
+        Kind::Accept => on_accept(turn),
+        Kind::Success => on_success(turn),
+        // The definition's last `else`. Restart, which names no slot, does not come here.
+        Kind::OldRound | Kind::Restart => on_old_round(turn),
     }
 }

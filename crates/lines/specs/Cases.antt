@@ -3,9 +3,8 @@
 use Rattle.std.specs.Prelude.{ℕ, ◌≡◌, refl, List, [], ◌∷◌, map, length, replicate}
 use Prim.Native.Char.{code}
 use Prim.Native.String.{String, [] as none, ◌∷◌ as ◌then◌}
-use Rattle.lines.specs.declared.Reading.{Reading}
 use Rattle.lines.specs.Text.{number_text, digits_text, line_text, record_count}
-use Rattle.lines.specs.Read.{more_digits, read_number, read_numbers, read_record, good_line, bad_line}
+use Rattle.lines.specs.Read.{Reading, more_digits, read_number, read_numbers, read_record, good_line, bad_line}
 
 -- the bytes of an ASCII text
 unfoldable pub bytes : String → List ℕ

@@ -1,9 +1,8 @@
 -- The definitions that the contracts cite, and beside them their laws.
--- Text, Read and Write are what a reader must believe; Places serves the private functions.
+-- Text, Read and Write are what a reader must believe.
 pub mod Text
 pub mod Read
 pub mod Write
-pub mod Places
 pub mod ByTest
 pub mod TextLaws
 pub mod DigitLaws

@@ -1,7 +1,7 @@
 -- What reading a line gives, as the grammar has it: a number at the front of the bytes, then numbers
 -- each with its end, then nothing. Relies on Text. Cited by its laws and by read_record's contract.
-use Rattle.std.specs.Prelude.{ℕ, zero, suc, ◌+◌, ◌*◌, ◌-◌, List, [], ◌∷◌, Bool, cond, ◌&&◌, replicate, ltb, leb, eqb}
-use Rattle.lines.specs.declared.Reading.{Reading}
+use Rattle.std.specs.Prelude.{ℕ, zero, suc, ◌+◌, ◌*◌, ◌-◌, List, [], ◌∷◌, Bool, cond, ◌&&◌, replicate, ltb, leb, eqb, Result, Ok, Err}
+use Rattle.lines.specs.declared.error.BadLine.{BadLine}
 use Rattle.lines.specs.Text.{digit, limit, record_count, end_byte}
 
 -- a number at the front of the bytes and the bytes after it, or none
@@ -53,6 +53,11 @@ read_numbers zero [] = the_numbers []
 read_numbers zero (b ∷ bs) = no_numbers
 read_numbers (suc left) bs = then_end (end_byte left) (read_numbers left) (read_number bs)
 
+-- what reading a line gives: the answer's number and the numbers
+pub record Reading : Type 0 where
+  pub answer : ℕ
+  pub numbers : List ℕ
+
 -- answer 8: line not as this, seven zeros returned
 abbrev pub bad_line : Reading
 bad_line = record { answer = 8; numbers = replicate record_count 0 }
@@ -69,3 +74,8 @@ reading_of no_numbers = bad_line
 -- reading takes one whole line
 unfoldable pub read_record : List ℕ → Reading
 read_record line = reading_of (read_numbers record_count line)
+
+-- what the rules call the outcome of read_record
+abbrev pub reading_by_rules : Result (List ℕ) BadLine → Reading
+reading_by_rules (Ok ns) = good_line ns
+reading_by_rules (Err e) = bad_line

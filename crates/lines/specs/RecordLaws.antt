@@ -1,10 +1,10 @@
--- The laws of records and lines: reading undoes writing, a line has one spelling, the answers, the longest line.
+-- The laws of records and lines: reading undoes writing, a line has one spelling, the answers, the longest line; an answer tells its result.
 -- Relies on ReadLaws and TextLaws. For whoever reads or writes records.
-use Rattle.std.specs.Prelude.{ℕ, ◌<◌, ◌≤◌, ◌≡◌, refl, List, ◌⊎◌, ◌↔◌, length}
+use Rattle.std.specs.Prelude.{ℕ, ◌<◌, ◌≤◌, ◌≡◌, refl, List, ◌⊎◌, ◌↔◌, length, Result, Ok, Err}
+use Rattle.lines.specs.declared.error.BadLine.{BadLine}
 use Rattle.std.proofs.Common.{ap, sym, ◌∙◌, inl, inr, ⊎_elim, arith}
-use Rattle.lines.specs.declared.Reading.{Reading}
 use Rattle.lines.specs.Text.{record_count, longest_record, line_text, IsRecord}
-use Rattle.lines.specs.Read.{NumbersRead, the_numbers, no_numbers, read_numbers, read_record, reading_of, good_line, bad_line}
+use Rattle.lines.specs.Read.{Reading, NumbersRead, the_numbers, no_numbers, read_numbers, read_record, reading_of, good_line, bad_line, reading_by_rules}
 use Rattle.lines.specs.TextLaws.{line_within}
 use Rattle.lines.specs.ReadLaws.{numbers_of_text, numbers_spelt}
 
@@ -61,3 +61,10 @@ longer_is_bad line long =
 pub line_text_injective : (ns ms : List ℕ) → IsRecord ns → IsRecord ms → line_text ns ≡ line_text ms → ns ≡ ms
 line_text_injective ns ms is also e =
     ap (λ (r : Reading). r.numbers) (sym (read_of_text ns is) ∙ ap read_record e ∙ read_of_text ms also)
+
+-- two results of reading that the rules call the same are one
+pub reading_tells_result : (x y : Result (List ℕ) BadLine) → reading_by_rules x ≡ reading_by_rules y → x ≡ y
+reading_tells_result (Ok ns) (Ok ms) e = ap (λ (r : Reading). Ok r.numbers) e
+reading_tells_result (Ok ns) (Err e') e = absurd (omega (arith, ap (λ (r : Reading). r.answer) e))
+reading_tells_result (Err e') (Ok ns) e = absurd (omega (arith, ap (λ (r : Reading). r.answer) e))
+reading_tells_result (Err d) (Err e') e = refl

@@ -6,7 +6,7 @@ use Rattle.lines.specs.Text.{digit, limit, digits_text, number_text, line_text}
 use Rattle.lines.specs.ByTest.{by_test}
 
 -- room for one more digit changes nothing where there is room
-room_is_enough : (k n : ℕ) → n < 10 ^ suc k → digits_text k n ≡ digits_text (suc k) n
+pub room_is_enough : (k n : ℕ) → n < 10 ^ suc k → digits_text k n ≡ digits_text (suc k) n
 unfolding digits_text
 room_is_enough zero n h = simp (lt-ltb n 10 h)
 room_is_enough (suc k) n h = ap (λ (s : List ℕ). cond (ltb n 10) (digit n ∷ []) (s ++ digit (n % 10) ∷ [])) (room_is_enough k (n / 10) tenth)

@@ -1,11 +1,11 @@
--- What the answer of a write tells of the buffer: 0 where it holds the line, 9 where it does not.
+-- What the answer of a write tells: of the buffer, 0 where it holds the line, 9 where it does not; and which result it is.
 -- Relies on Write. For whoever writes lines.
-use Rattle.std.specs.Prelude.{ℕ, ◌≤◌, ◌≡◌, refl, List, Bool, true, false, cond, length}
+use Rattle.std.specs.Prelude.{ℕ, ◌≤◌, ◌≡◌, refl, List, Bool, true, false, cond, length, Result, Ok, Err}
 use Rattle.std.proofs.Common.{ap, arith, ltb-false}
-use Rattle.lines.specs.declared.Written.{Written}
+use Rattle.lines.specs.declared.error.ShortBuffer.{ShortBuffer}
 use Rattle.lines.specs.ByTest.{by_test}
 use Rattle.lines.specs.Text.{line_text}
-use Rattle.lines.specs.Write.{too_short, no_write, a_write, written_record}
+use Rattle.lines.specs.Write.{Written, too_short, no_write, a_write, written_record, written_by_rules}
 
 module _ (ns buffer : List ℕ) (w : Written) (is : w ≡ written_record ns buffer) where
   pub written_fits : w.answer ≡ 0 → too_short ns buffer ≡ false
@@ -30,3 +30,10 @@ pub written_within : (ns buffer : List ℕ) → (written_record ns buffer).lengt
 written_within ns buffer =
     by_test (λ (w : Written). w.length ≤ length buffer) (too_short ns buffer) no_write (a_write (length (line_text ns)))
     (λ _. omega arith) (line_fits ns buffer)
+
+-- two results of a write that the rules call the same are one
+pub written_tells_result : (x y : Result ℕ ShortBuffer) → written_by_rules x ≡ written_by_rules y → x ≡ y
+written_tells_result (Ok m) (Ok n) e = ap (λ (w : Written). Ok w.length) e
+written_tells_result (Ok n) (Err e') e = absurd (omega (arith, ap (λ (w : Written). w.answer) e))
+written_tells_result (Err e') (Ok n) e = absurd (omega (arith, ap (λ (w : Written). w.answer) e))
+written_tells_result (Err d) (Err e') e = refl

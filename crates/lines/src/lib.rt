@@ -1,96 +1,52 @@
-// Lines of text: a record of seven decimal numbers is read from one line and written as one line, and so are
-// numbers of any count. Relies on specs/Text, specs/Read and specs/Write, which the contracts cite. Only
-// read_record and write_record know that a record is seven numbers.
+// Lines of text: a record of seven decimal numbers is read from one line and written as one line, and numbers of
+// any count are written so. Relies on specs/Text, specs/Read and specs/Write, which the contracts cite, and on the
+// kit's `itoa` for a number's digits. Only read_record and write_record know that a record is seven numbers.
 
 #![tactic(auto)]
 
-ghost use Rattle.std.specs.Prelude.{◌≡◌, ◌++◌, ◌+◌, ◌<◌, ◌≤◌, length, drop};
-ghost use Rattle.lines.specs.Text.{digit, number_text, line_text, end_byte};
-ghost use Rattle.lines.specs.Read.{more_digits, read_number, read_numbers, read_record};
-ghost use Rattle.lines.specs.Write.{written_record, written_buffer};
-ghost use Rattle.lines.specs.Places.{number_placed, numbers_placed, text_at};
+ghost use Rattle.std.specs.Prelude.{◌≡◌, ◌++◌, ◌+◌, ◌≤◌, length, drop, MatchOption};
+ghost use Rattle.lines.specs.Text.{number_text, line_text, end_byte};
+ghost use Rattle.lines.specs.Read.{a_number, no_number, the_numbers, no_numbers};
+ghost use Rattle.lines.specs.Read.{more_digits, read_number, read_numbers, read_record, reading_by_rules};
+ghost use Rattle.lines.specs.Write.{written_record, written_buffer, written_by_rules};
 
-// The answers of refused lines and refused writes.
-const BAD_LINE: u64 = 8;
+mod error; // error.rt: why a line is not read or not written
 
-const SHORT_BUFFER: u64 = 9;
+pub use error::{BadLine, ShortBuffer};
 
-const TAB: u8 = b'\t';
+// The bytes of the longest number, twenty digits, and the byte after it; and those of the longest line of a record.
+pub const LONGEST_NUMBER: usize = 21;
 
-const NEWLINE: u8 = b'\n';
+pub const LONGEST_RECORD: usize = 7 * LONGEST_NUMBER;
 
-const LOW_DIGIT: u8 = b'0';
+pub const TAB: u8 = b'\t';
 
-const HIGH_DIGIT: u8 = b'9';
-
-// The largest number, and the largest that can take one more digit.
-const LARGEST: u64 = 18446744073709551615;
-
-const LARGEST_TENS: u64 = 1844674407370955161;
-
-// What reading a line gives: answer 0 and its numbers, or answer 8 and seven zeros.
-#[derive(Clone, Copy)]
-pub struct Reading {
-    pub answer: u64,
-    pub numbers: [u64; 7],
-}
-
-// What writing a line gives: answer 0 and the line's length, or answer 9 and 0.
-#[derive(Clone, Copy)]
-pub struct Written {
-    pub answer: u64,
-    pub length: usize,
-}
+pub const NEWLINE: u8 = b'\n';
 
 // Reads a record: one whole line.
 #[tactic(auto, unfolding(crate::specs::Read::read_record))]
-pub fn read_record(line: &[u8]) -> Reading
-    ensures { result ≡ read_record line.now }
+pub fn read_record(line: &[u8]) -> Result<[u64; 7], BadLine>
+    ensures { reading_by_rules result ≡ read_record line.now }
 {
-    let mut numbers = [0u64; 7];
-    if read_numbers(line, &mut numbers) {
-        Reading { answer: 0, numbers }
-    } else {
-        Reading {
-            answer: BAD_LINE,
-            numbers: [0u64; 7],
-        }
-    }
+    read_numbers(line).ok_or(BadLine)
 }
 
-// Writes a record's line at the front of the buffer, if the buffer can hold it.
-pub fn write_record(numbers: [u64; 7], out: &mut [u8]) -> Written
-    ensures answer { result ≡ written_record numbers out.old }
+// Writes a record's line at the front of the buffer, if the buffer can hold it. Public, as is what it rests on, which takes any count.
+pub fn write_record(numbers: [u64; 7], out: &mut [u8]) -> Result<usize, ShortBuffer>
+    ensures answer { written_by_rules result ≡ written_record numbers out.old }
     ensures buffer { out.new ≡ written_buffer numbers out.old }
 {
     write_numbers(&numbers, out)
 }
 
 // Writes a line of any count of numbers at the front of the buffer, if the buffer can hold it.
-pub fn write_numbers(numbers: &[u64], out: &mut [u8]) -> Written
-    ensures answer { result ≡ written_record numbers.now out.old }
+pub fn write_numbers(numbers: &[u64], out: &mut [u8]) -> Result<usize, ShortBuffer>
+    ensures answer { written_by_rules result ≡ written_record numbers.now out.old }
     ensures buffer { out.new ≡ written_buffer numbers.now out.old }
 {
-    let written = measure(numbers, out);
-    if written.answer != 0 {
-        return written;
-    }
-    put_line(numbers, out);
-    written
-}
-
-// What stands at a place of a line: a number and the place after it, or no number.
-#[derive(Clone, Copy)]
-enum Number {
-    Whole(u64, usize),
-    Bad,
-}
-
-// A byte as a number.
-fn wide(b: u8) -> u64
-    ensures { result ≡ b }
-{
-    b as u64
+    let end = measure(numbers, out)?;
+    put_line(numbers, out, end);
+    Ok(end)
 }
 
 // The byte after a number that has `left` numbers after it.
@@ -100,78 +56,62 @@ fn end_byte(left: usize) -> u8
     if left == 0 { NEWLINE } else { TAB }
 }
 
-// The digits from `from` on, after those that make `first`.
+// More digits of a number that begins with `first`, and the bytes after them. By digits and not by `parse`, which takes a sign and zeros in front,
+// and no bytes behind the number.
 #[tactic(auto, using(crate::proofs::Sets::more_digits))]
-fn more_digits(line: &[u8], from: usize, first: u64) -> Number
-    ensures { number_placed line.now result ≡ more_digits first (drop from line.now) }
+fn more_digits(first: u64, bytes: &[u8]) -> Option<(u64, &[u8])>
+    ensures { MatchOption result
+        (more_digits first bytes.now ≡ no_number)
+        (λ read. more_digits first bytes.now ≡ a_number read.0 read.1.now) }
 {
     let mut v = first;
-    let mut at = from;
-    while at < line.len() {
-        let b = line[at];
-        if b < LOW_DIGIT {
-            return Number::Whole(v, at);
-        }
-        if HIGH_DIGIT < b {
-            return Number::Whole(v, at);
-        }
-        if LARGEST_TENS < v {
-            return Number::Bad;
-        }
-        let tens = v * 10;
-        let ones = wide(b - LOW_DIGIT);
-        if LARGEST - tens < ones {
-            return Number::Bad;
-        }
-        v = tens + ones;
-        at += 1;
+    let mut rest = bytes;
+    while let Some((&b, after)) = rest.split_first()
+        && b.is_ascii_digit()
+    {
+        v = v.checked_mul(10)?.checked_add(u64::from(b - b'0'))?;
+        rest = after;
     }
-    Number::Whole(v, at)
+    Some((v, rest))
 }
 
-// The number at a place of a line.
-#[tactic(auto, using(crate::proofs::Sets::number_at))]
-fn number_at(line: &[u8], at: usize) -> Number
-    ensures { number_placed line.now result ≡ read_number (drop at line.now) }
+// The number at the front of the bytes, and the bytes after it.
+#[tactic(auto, using(crate::proofs::Sets::read_number))]
+fn read_number(bytes: &[u8]) -> Option<(u64, &[u8])>
+    ensures { MatchOption result
+        (read_number bytes.now ≡ no_number)
+        (λ read. read_number bytes.now ≡ a_number read.0 read.1.now) }
 {
-    if line.len() <= at {
-        return Number::Bad;
+    let (&b, after) = bytes.split_first()?;
+    match b {
+        b'0' => Some((0, after)),
+        b'1'..=b'9' => more_digits(u64::from(b - b'0'), after),
+        _ => None,
     }
-    let b = line[at];
-    if b < LOW_DIGIT {
-        return Number::Bad;
-    }
-    if HIGH_DIGIT < b {
-        return Number::Bad;
-    }
-    if b == LOW_DIGIT {
-        return Number::Whole(0, at + 1);
-    }
-    more_digits(line, at + 1, wide(b - LOW_DIGIT))
 }
 
-// The numbers of a whole line, as many as `numbers` holds, or false.
+// The N numbers of a whole line.
 #[tactic(auto, using(crate::proofs::Sets::read_numbers))]
-fn read_numbers(line: &[u8], numbers: &mut [u64]) -> bool
-    ensures { numbers_placed result numbers.new ≡ read_numbers (length numbers.old) line.now }
+fn read_numbers<const N: usize>(line: &[u8]) -> Option<[u64; N]>
+    ensures { MatchOption result
+        (read_numbers N line.now ≡ no_numbers)
+        (λ numbers. read_numbers N line.now ≡ the_numbers numbers) }
 {
-    let mut at = 0;
-    let mut i = 0;
-    while i < numbers.len() {
-        let Number::Whole(v, next) = number_at(line, at) else {
-            return false;
-        };
-        if line.len() <= next {
-            return false;
+    let mut numbers = [0; N];
+    let mut bytes = line;
+    // Counted beside the loop, since the proof doesn't close over iter_mut().zip((0..N).rev()): nothing says what the numbers end as.
+    let mut left = N;
+    for number in &mut numbers {
+        left -= 1;
+        let (value, after) = read_number(bytes)?;
+        let (&end, rest) = after.split_first()?;
+        if end != end_byte(left) {
+            return None;
         }
-        if line[next] != end_byte(numbers.len() - i - 1) {
-            return false;
-        }
-        numbers[i] = v;
-        at = next + 1;
-        i += 1;
+        *number = value;
+        bytes = rest;
     }
-    line.len() <= at
+    bytes.is_empty().then_some(numbers)
 }
 
 // The count of digits of a number.
@@ -179,75 +119,49 @@ fn read_numbers(line: &[u8], numbers: &mut [u64]) -> bool
 fn width(n: u64) -> usize
     ensures { result ≡ length (number_text n) }
 {
-    let mut tens = n;
-    let mut digits = 1;
-    while 9 < tens {
-        tens = tens / 10;
-        digits += 1;
+    match n.checked_ilog10() {
+        None => 1,
+        Some(tens) => tens as usize + 1,
     }
-    digits
 }
 
-// What writing a line of numbers gives: the buffer's room is counted down, so that no sum can overflow.
+// The length of the numbers' line: the buffer's room is counted down, so that no sum can overflow.
 #[tactic(auto, using(crate::proofs::Sets::measure))]
-fn measure(numbers: &[u64], out: &[u8]) -> Written
-    ensures { result ≡ written_record numbers.now out.now }
+fn measure(numbers: &[u64], out: &[u8]) -> Result<usize, ShortBuffer>
+    ensures { written_by_rules result ≡ written_record numbers.now out.now }
 {
     let mut room = out.len();
-    let mut i = 0;
-    while i < numbers.len() {
-        let digits = width(numbers[i]);
+    for &n in numbers {
+        let digits = width(n);
         if room <= digits {
-            return Written {
-                answer: SHORT_BUFFER,
-                length: 0,
-            };
+            return Err(ShortBuffer);
         }
-        room = room - digits - 1;
-        i += 1;
+        room -= digits + 1;
     }
-    Written {
-        answer: 0,
-        length: out.len() - room,
-    }
+    Ok(out.len() - room)
 }
 
-// The byte of a digit.
-fn digit(d: u64) -> u8
-    requires { d < 10 }
-    ensures { result ≡ digit d }
+// Puts a number's text before the place `end` of the buffer, and gives where it starts.
+#[tactic(auto, using(crate::proofs::Widths::text_is_decimal))]
+fn put_number(n: u64, out: &mut [u8], end: usize) -> usize
+    requires room { length (number_text n) ≤ end }
+    requires within { end ≤ length out.old }
+    ensures start { result + length (number_text n) ≡ end }
+    ensures put { drop result out.new ≡ number_text n ++ drop end out.old }
 {
-    LOW_DIGIT + d as u8
+    itoa::write_digits(n, out, end)
 }
 
-// Puts a number's text at a place of the buffer, and gives the place after it.
-#[tactic(auto, using(crate::proofs::Sets::put_number))]
-fn put_number(out: &mut [u8], at: usize, n: u64) -> usize
-    requires { at + length (number_text n) ≤ length out.old }
-    ensures place { result ≡ at + length (number_text n) }
-    ensures put { out.new ≡ text_at out.old at (number_text n) }
-{
-    if n < 10 {
-        out[at] = digit(n);
-        return at + 1;
-    }
-    let last = put_number(out, at, n / 10);
-    out[last] = digit(n % 10);
-    last + 1
-}
-
-// Puts a line of numbers at the front of the buffer.
+// Puts the numbers' line at the front of the buffer, from its end back to its start.
 #[tactic(auto, using(crate::proofs::Sets::put_line))]
-fn put_line(numbers: &[u64], out: &mut [u8])
-    requires { length (line_text numbers.now) ≤ length out.old }
+fn put_line(numbers: &[u64], out: &mut [u8], end: usize)
+    requires fits { end ≤ length out.old }
+    requires whole { end ≡ length (line_text numbers.now) }
     ensures { out.new ≡ line_text numbers.now ++ drop (length (line_text numbers.now)) out.old }
 {
-    let mut at = 0;
-    let mut i = 0;
-    while i < numbers.len() {
-        let end = put_number(out, at, numbers[i]);
-        out[end] = end_byte(numbers.len() - i - 1);
-        at = end + 1;
-        i += 1;
+    let mut at = end;
+    for (left, &n) in numbers.iter().rev().enumerate() {
+        out[at - 1] = end_byte(left);
+        at = put_number(n, out, at - 1);
     }
 }

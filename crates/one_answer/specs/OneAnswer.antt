@@ -1,32 +1,41 @@
 -- One answer for each contract: two answers that both meet a public function's contract are equal.
 -- Each line states the contract with the very definitions that the function's `ensures` cites; all are proved by one lemma.
 -- Relies on the definitions that the contracts cite. For the reader: nothing cites it.
-use Rattle.std.specs.Prelude.{ℕ, ◌≡◌, Bool, List, [], ◌∷◌}
+use Rattle.std.specs.Prelude.{ℕ, ◌≡◌, Bool, Option, Result, Err, List, [], ◌∷◌}
 use Rattle.std.proofs.Common.{sym, ◌∙◌}
 use Rattle.std.specs.Int.Count.{ones}
 use Rattle.ballots.specs.declared.Ballot.{Ballot}
 use Rattle.ballots.specs.declared.Slot.{Slot}
-use Rattle.ballots.specs.declared.Next.{Next}
 use Rattle.ballots.specs.Ballot.{x_of, maker_of, is_ballot, next}
 use Rattle.ballots.specs.Boxes.{holds_box, is_majority, with_box}
 use Rattle.consensus.specs.declared.Event.{Event}
-use Rattle.consensus.specs.declared.Answer.{Answer}
-use Rattle.consensus.specs.Answers.{numbers_of}
+use Rattle.consensus.specs.declared.Message.{Message}
+use Rattle.consensus.specs.declared.kind.Kind.{Kind}
+use Rattle.consensus.specs.declared.refusal.Refusal.{Refusal}
+use Rattle.consensus.specs.Events.{kind_number, KindOf, event_of}
+use Rattle.consensus.specs.Answers.{event_numbers, answer_number, answer_by_rules, refusal_by_rules, numbers_of}
+use Rattle.consensus.specs.AnswersLaws.{answer_tells_result, one_kind_of}
 use Rattle.consensus.specs.Step.{table_ok, agreed_at, step}
-use Rattle.lines.specs.declared.Reading.{Reading}
-use Rattle.lines.specs.declared.Written.{Written}
-use Rattle.lines.specs.Read.{read_record}
-use Rattle.lines.specs.Write.{written_record, written_buffer}
+use Rattle.lines.specs.declared.error.BadLine.{BadLine}
+use Rattle.lines.specs.declared.error.ShortBuffer.{ShortBuffer}
+use Rattle.lines.specs.Read.{read_record, reading_by_rules}
+use Rattle.lines.specs.RecordLaws.{reading_tells_result}
+use Rattle.lines.specs.Write.{written_record, written_buffer, written_by_rules}
+use Rattle.lines.specs.WriteLaws.{written_tells_result}
 use Rattle.board.specs.declared.Command.{Command}
 use Rattle.board.specs.declared.Entry.{Entry}
-use Rattle.board.specs.declared.BoardAnswer.{BoardAnswer}
+use Rattle.board.specs.declared.refusal.BoardRefusal.{BoardRefusal}
 use Rattle.board.specs.Command.{command_of}
-use Rattle.board.specs.Board.{applied, board_of}
-use Rattle.calls.specs.declared.Called.{Called}
+use Rattle.board.specs.Board.{applied, board_of, answer_of, answer_by_rules as board_answer_by_rules, numbers_of as board_numbers_of}
+use Rattle.board.specs.BoardLaws.{answer_tells_result as board_answer_tells_result}
+use Rattle.calls.specs.declared.refusal.CallRefusal.{CallRefusal}
+use Rattle.calls.specs.declared.refusal.CallRefusal.TheVariants as call_refusal
+use Rattle.calls.specs.UnlessZero.{unless_zero}
 use Rattle.calls.specs.Header.{boxes_of}
 use Rattle.calls.specs.FirstLine.{line_length}
 use Rattle.calls.specs.Tables.{fresh_tables}
-use Rattle.calls.specs.Call.{bad_line, call}
+use Rattle.calls.specs.Call.{bad_line, call, called_by_rules}
+use Rattle.calls.specs.CallLaws.{called_tells_result}
 
 -- whatever meets the contract is one and the same
 abbrev pub OneAnswer : {A : Type 0} → (A → Type 0) → Type 0
@@ -43,6 +52,19 @@ both_fixed a b x y meets_x meets_y =
     let lent = fixed b x.1 y.1 meets_x.1 meets_y.1 in
     λ i. (result i, lent i)
 
+-- a contract that says which answer of the rules it is, where the rules tell any two of the code's answers apart
+pub fixed_by_rules : {A B : Type 0} (by_rules : A → B) → ((x y : A) → by_rules x ≡ by_rules y → x ≡ y) → (d : B) → OneAnswer (λ (r : A). by_rules r ≡ d)
+fixed_by_rules by_rules tells d x y is_x is_y = tells x y (is_x ∙ sym is_y)
+
+-- the same, with the lent memory at exit
+pub both_fixed_by_rules :
+    {A B C : Type 0} (by_rules : A → B) → ((x y : A) → by_rules x ≡ by_rules y → x ≡ y) → (d : B) (c : C) →
+    OneAnswer (λ (r : A × C). (by_rules r.0 ≡ d) × (r.1 ≡ c))
+both_fixed_by_rules by_rules tells d c x y meets_x meets_y =
+    let result = fixed_by_rules by_rules tells d x.0 y.0 meets_x.0 meets_y.0 in
+    let lent = fixed c x.1 y.1 meets_x.1 meets_y.1 in
+    λ i. (result i, lent i)
+
 -- ---- ballots
 
 pub x_of_has_one_answer : (b : Ballot) → OneAnswer (λ (r : ℕ). r ≡ x_of b.0)
@@ -54,7 +76,7 @@ maker_of_has_one_answer b = fixed (maker_of b.0)
 pub is_ballot_has_one_answer : (boxes : ℕ) (b : Ballot) → OneAnswer (λ (r : Bool). r ≡ is_ballot boxes b.0)
 is_ballot_has_one_answer boxes b = fixed (is_ballot boxes b.0)
 
-pub next_ballot_has_one_answer : (promised : Ballot) (index : ℕ) → OneAnswer (λ (r : Next). r ≡ next promised.0 index)
+pub next_ballot_has_one_answer : (promised : Ballot) (index : ℕ) → OneAnswer (λ (r : Option Ballot). r ≡ next promised.0 index)
 next_ballot_has_one_answer promised index = fixed (next promised.0 index)
 
 -- ---- ballots::boxes
@@ -73,6 +95,26 @@ with_box_has_one_answer set k = fixed (with_box set k)
 
 -- ---- consensus
 
+-- the kind of a number, or that there is none
+pub kind_has_one_answer : (number : ℕ) → OneAnswer (KindOf number)
+kind_has_one_answer = one_kind_of
+
+-- the number of a kind
+pub kind_number_has_one_answer : (kind : Kind) → OneAnswer (λ (r : ℕ). r ≡ kind_number kind)
+kind_number_has_one_answer kind = fixed (kind_number kind)
+
+-- the number of a refusal
+pub refusal_number_has_one_answer : (refusal : Refusal) → OneAnswer (λ (r : ℕ). r ≡ answer_number (refusal_by_rules refusal))
+refusal_number_has_one_answer refusal = fixed (answer_number (refusal_by_rules refusal))
+
+-- an event from its six numbers
+pub event_has_one_answer : (numbers : List ℕ) → OneAnswer (λ (r : Event). r ≡ event_of numbers)
+event_has_one_answer numbers = fixed (event_of numbers)
+
+-- the six numbers of an event
+pub event_numbers_has_one_answer : (event : Event) → OneAnswer (λ (r : List ℕ). r ≡ event_numbers event)
+event_numbers_has_one_answer event = fixed (event_numbers event)
+
 pub table_ok_has_one_answer : (table : List ℕ) → OneAnswer (λ (r : Bool). r ≡ table_ok table)
 table_ok_has_one_answer table = fixed (table_ok table)
 
@@ -80,17 +122,22 @@ pub agreed_at_has_one_answer : (table : List ℕ) (slot : Slot) → OneAnswer (�
 agreed_at_has_one_answer table slot = fixed (agreed_at table slot.0)
 
 -- the answer, and the table at exit
-pub step_has_one_answer : (table : List ℕ) (event : Event) → OneAnswer (λ (r : Answer × List ℕ). (r.0 ≡ (step table event).answer) × (r.1 ≡ (step table event).table))
-step_has_one_answer table event = both_fixed (step table event).answer (step table event).table
+pub step_has_one_answer :
+    (table : List ℕ) (event : Event) →
+    OneAnswer (λ (r : Result (Option Message) Refusal × List ℕ). (answer_by_rules r.0 ≡ (step table event).answer) × (r.1 ≡ (step table event).table))
+step_has_one_answer table event = both_fixed_by_rules answer_by_rules answer_tells_result (step table event).answer (step table event).table
 
 -- ---- lines
 
-pub read_record_has_one_answer : (line : List ℕ) → OneAnswer (λ (r : Reading). r ≡ read_record line)
-read_record_has_one_answer line = fixed (read_record line)
+pub read_record_has_one_answer : (line : List ℕ) → OneAnswer (λ (r : Result (List ℕ) BadLine). reading_by_rules r ≡ read_record line)
+read_record_has_one_answer line = fixed_by_rules reading_by_rules reading_tells_result (read_record line)
 
 -- `write_record` and `write_numbers`: the answer, and the buffer at exit
-pub write_has_one_answer : (numbers out : List ℕ) → OneAnswer (λ (r : Written × List ℕ). (r.0 ≡ written_record numbers out) × (r.1 ≡ written_buffer numbers out))
-write_has_one_answer numbers out = both_fixed (written_record numbers out) (written_buffer numbers out)
+pub write_has_one_answer :
+    (numbers out : List ℕ) →
+    OneAnswer (λ (r : Result ℕ ShortBuffer × List ℕ). (written_by_rules r.0 ≡ written_record numbers out) × (r.1 ≡ written_buffer numbers out))
+write_has_one_answer numbers out =
+    both_fixed_by_rules written_by_rules written_tells_result (written_record numbers out) (written_buffer numbers out)
 
 -- ---- board
 
@@ -100,16 +147,36 @@ command_of_has_one_answer value = fixed (command_of value)
 pub applied_has_one_answer : (entry : Entry) (link value : ℕ) → OneAnswer (λ (r : Entry). r ≡ applied entry link value)
 applied_has_one_answer entry link value = fixed (applied entry link value)
 
-pub board_has_one_answer : (table : List ℕ) (link : ℕ) → OneAnswer (λ (r : BoardAnswer). r ≡ board_of table link)
-board_has_one_answer table link = fixed (board_of table link)
+pub board_has_one_answer : (table : List ℕ) (link : ℕ) → OneAnswer (λ (r : Result Entry BoardRefusal). board_answer_by_rules r ≡ board_of table link)
+board_has_one_answer table link = fixed_by_rules board_answer_by_rules board_answer_tells_result (board_of table link)
+
+-- the number of a refusal
+pub board_refusal_number_has_one_answer : (refusal : BoardRefusal) → OneAnswer (λ (r : ℕ). r ≡ answer_of (board_answer_by_rules (Err refusal)))
+board_refusal_number_has_one_answer refusal = fixed (answer_of (board_answer_by_rules (Err refusal)))
+
+-- `board::numbers_of`
+pub board_numbers_of_has_one_answer : (answer : Result Entry BoardRefusal) → OneAnswer (λ (r : List ℕ). r ≡ board_numbers_of (board_answer_by_rules answer))
+board_numbers_of_has_one_answer answer = fixed (board_numbers_of (board_answer_by_rules answer))
 
 -- ---- calls
 
-pub boxes_of_has_one_answer : (line : List ℕ) → OneAnswer (λ (r : ℕ). r ≡ boxes_of line)
-boxes_of_has_one_answer line = fixed (boxes_of line)
+-- the refusal of a line that is no record
+pub refused_line_has_one_answer : (line : BadLine) → OneAnswer (λ (r : CallRefusal). r ≡ call_refusal.BadLine)
+refused_line_has_one_answer line = fixed call_refusal.BadLine
 
-pub line_length_has_one_answer : (bytes : List ℕ) → OneAnswer (λ (r : ℕ). r ≡ line_length bytes)
-line_length_has_one_answer bytes = fixed (line_length bytes)
+-- the refusal of a buffer that is too short
+pub refused_buffer_has_one_answer : (buffer : ShortBuffer) → OneAnswer (λ (r : CallRefusal). r ≡ call_refusal.ShortBuffer)
+refused_buffer_has_one_answer buffer = fixed call_refusal.ShortBuffer
+
+-- the number of a refusal
+pub call_refusal_number_has_one_answer : (refusal : CallRefusal) → OneAnswer (λ (r : ℕ). r ≡ (called_by_rules (Err refusal)).answer)
+call_refusal_number_has_one_answer refusal = fixed (called_by_rules (Err refusal)).answer
+
+pub boxes_of_has_one_answer : (line : List ℕ) → OneAnswer (λ (r : Option ℕ). r ≡ unless_zero (boxes_of line))
+boxes_of_has_one_answer line = fixed (unless_zero (boxes_of line))
+
+pub line_length_has_one_answer : (bytes : List ℕ) → OneAnswer (λ (r : Option ℕ). r ≡ unless_zero (line_length bytes))
+line_length_has_one_answer bytes = fixed (unless_zero (line_length bytes))
 
 pub fresh_tables_has_one_answer : (boxes : ℕ) (tables : List ℕ) → OneAnswer (λ (r : List ℕ). r ≡ fresh_tables boxes tables)
 fresh_tables_has_one_answer boxes tables = fixed (fresh_tables boxes tables)
@@ -117,15 +184,17 @@ fresh_tables_has_one_answer boxes tables = fixed (fresh_tables boxes tables)
 -- what it returns, and the tables and the buffer at exit
 pub call_has_one_answer :
     (line : List ℕ) (boxes : ℕ) (tables out : List ℕ) →
-    OneAnswer (λ (r : Called × (List ℕ × List ℕ)).
-    (r.0 ≡ (call line boxes tables out).called) × (r.1 ≡ ((call line boxes tables out).tables, (call line boxes tables out).out)))
+    OneAnswer (λ (r : Result ℕ CallRefusal × (List ℕ × List ℕ)).
+    (called_by_rules r.0 ≡ (call line boxes tables out).called) × (r.1 ≡ ((call line boxes tables out).tables, (call line boxes tables out).out)))
 call_has_one_answer line boxes tables out =
-    both_fixed (call line boxes tables out).called ((call line boxes tables out).tables, (call line boxes tables out).out)
+    both_fixed_by_rules called_by_rules called_tells_result (call line boxes tables out).called ((call line boxes tables out).tables, (call line boxes tables out).out)
 
 pub bad_line_has_one_answer :
     (number : ℕ) (out : List ℕ) →
-    OneAnswer (λ (r : Written × List ℕ). (r.0 ≡ written_record (bad_line ∷ number ∷ []) out) × (r.1 ≡ written_buffer (bad_line ∷ number ∷ []) out))
+    OneAnswer (λ (r : Result ℕ ShortBuffer × List ℕ).
+    (written_by_rules r.0 ≡ written_record (bad_line ∷ number ∷ []) out) × (r.1 ≡ written_buffer (bad_line ∷ number ∷ []) out))
 bad_line_has_one_answer number out = write_has_one_answer (bad_line ∷ number ∷ []) out
 
-pub numbers_of_has_one_answer : (answer : Answer) → OneAnswer (λ (r : List ℕ). r ≡ numbers_of answer)
-numbers_of_has_one_answer answer = fixed (numbers_of answer)
+-- `calls::numbers_of`
+pub numbers_of_has_one_answer : (answer : Result (Option Message) Refusal) → OneAnswer (λ (r : List ℕ). r ≡ numbers_of (answer_by_rules answer))
+numbers_of_has_one_answer answer = fixed (numbers_of (answer_by_rules answer))

@@ -5,11 +5,9 @@ use Rattle.std.proofs.Common.{sym, ap, ◌∙◌, subst, true≢false, arith}
 use Rattle.std.proofs.Math.Decide.{ℕ_discrete, dec_le, dec_lt}
 use Rattle.ballots.specs.Ballot.{max_boxes}
 use Rattle.consensus.specs.declared.Event.{Event}
-use Rattle.consensus.specs.declared.Answer.{Answer}
-use Rattle.consensus.specs.declared.Answer.TheVariants.{Quiet, Sends, BadTable, BadEvent, NotWellKept, NotAwaited, AlreadyAgreed, OtherAgreed, NoBallotLeft}
-use Rattle.consensus.specs.declared.Outcome.{Outcome}
+use Rattle.consensus.specs.OnSlot.{Outcome}
 use Rattle.consensus.specs.Layout.{slots, table_size, head_of, room_at}
-use Rattle.consensus.specs.Answers.{no_message, numbers_of, answer_number}
+use Rattle.consensus.specs.Answers.{Answer, Quiet, Sends, BadTable, BadEvent, NotWellKept, NotAwaited, AlreadyAgreed, OtherAgreed, NoBallotLeft, no_message, numbers_of, answer_number}
 use Rattle.consensus.specs.Step.{Stepped, table_ok, all_saved_kept, refuse, step}
 use Rattle.step_laws.specs.ByTest.{false_unless}
 use Rattle.step_laws.specs.HeadLaws.{HeadKept, TableKept, table_clauses, clauses_table}

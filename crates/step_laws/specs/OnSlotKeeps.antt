@@ -4,11 +4,10 @@ use Rattle.std.specs.Prelude.{◌≡◌, true, ◌≢◌}
 use Rattle.consensus.specs.declared.Head.{Head}
 use Rattle.consensus.specs.declared.Room.{Room}
 use Rattle.consensus.specs.declared.Event.{Event}
-use Rattle.consensus.specs.declared.Answer.{Answer}
-use Rattle.consensus.specs.declared.Outcome.TheVariants.{Becomes}
+use Rattle.consensus.specs.Answers.{Answer}
 use Rattle.consensus.specs.WellKept.{well_kept}
 use Rattle.consensus.specs.Events.{restart, event_ok}
-use Rattle.consensus.specs.OnSlot.{on_slot}
+use Rattle.consensus.specs.OnSlot.{Becomes, on_slot}
 use Rattle.step_laws.specs.HeadLaws.{HeadKept}
 use Rattle.step_laws.specs.EventLaws.{event_cases}
 use Rattle.step_laws.specs.EventLaws.EventCases.{a_propose, a_collect, a_last, a_begin, an_accept, a_success, an_old_round, a_restart}

@@ -8,9 +8,8 @@ use Rattle.consensus.specs.declared.Head.{Head}
 use Rattle.consensus.specs.declared.Vote.{Vote}
 use Rattle.consensus.specs.declared.Saved.{Saved}
 use Rattle.consensus.specs.declared.Room.{Room}
-use Rattle.consensus.specs.declared.Answer.{Answer}
-use Rattle.consensus.specs.declared.Outcome.{Outcome}
-use Rattle.consensus.specs.declared.Outcome.TheVariants.{Becomes, Refused}
+use Rattle.consensus.specs.Answers.{Answer}
+use Rattle.consensus.specs.OnSlot.{Outcome, Becomes, Refused}
 use Rattle.consensus.specs.Room.{promised, phase, own_ballot, own_value, lasts, accepts, agreed, vote, round, room, no_round}
 use Rattle.consensus.specs.Enough.{enough_to_collect, enough_to_begin}
 use Rattle.consensus.specs.WellKept.{well_kept}

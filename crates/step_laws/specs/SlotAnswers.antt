@@ -9,14 +9,12 @@ use Rattle.ballots.specs.Boxes.{with_box}
 use Rattle.consensus.specs.declared.Head.{Head}
 use Rattle.consensus.specs.declared.Room.{Room}
 use Rattle.consensus.specs.declared.Event.{Event}
-use Rattle.consensus.specs.declared.Answer.{Answer}
-use Rattle.consensus.specs.declared.Answer.TheVariants.{Quiet, Sends, BadTable, BadEvent, NotWellKept, NotAwaited, AlreadyAgreed, OtherAgreed, NoBallotLeft}
-use Rattle.consensus.specs.declared.Outcome.TheVariants.{Refused}
+use Rattle.consensus.specs.Answers.{Answer, Quiet, Sends, BadTable, BadEvent, NotWellKept, NotAwaited, AlreadyAgreed, OtherAgreed, NoBallotLeft}
 use Rattle.consensus.specs.Room.{promised, phase, own_ballot, lasts, accepts, agreed, idle, collecting, begun}
 use Rattle.consensus.specs.Enough.{enough_to_collect, enough_to_begin}
 use Rattle.consensus.specs.WellKept.{well_kept}
 use Rattle.consensus.specs.Events.{propose, last, accept, success, old_round, restart, event_ok}
-use Rattle.consensus.specs.OnSlot.{awaited, on_propose, on_collect, on_last, on_begin, on_accept, on_success, on_old_round, on_slot}
+use Rattle.consensus.specs.OnSlot.{Refused, awaited, on_propose, on_collect, on_last, on_begin, on_accept, on_success, on_old_round, on_slot}
 use Rattle.step_laws.specs.ByTest.{by_answer, conjuncts, false_unless}
 use Rattle.step_laws.specs.KeptLaws.{kept_clauses}
 use Rattle.step_laws.specs.EventLaws.{event_cases}

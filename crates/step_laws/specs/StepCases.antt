@@ -6,14 +6,11 @@ use Rattle.std.proofs.Math.Decide.{ℕ_discrete}
 use Rattle.std.proofs.lemmas.Bool.{not-true}
 use Rattle.consensus.specs.declared.Room.{Room}
 use Rattle.consensus.specs.declared.Event.{Event}
-use Rattle.consensus.specs.declared.Answer.{Answer}
-use Rattle.consensus.specs.declared.Answer.TheVariants.{Quiet, BadTable, BadEvent, NotWellKept}
-use Rattle.consensus.specs.declared.Outcome.{Outcome}
-use Rattle.consensus.specs.declared.Outcome.TheVariants.{Becomes, Refused}
+use Rattle.consensus.specs.Answers.{Answer, Quiet, BadTable, BadEvent, NotWellKept}
 use Rattle.consensus.specs.Layout.{slots, table_size, head_of, room_at}
 use Rattle.consensus.specs.WellKept.{well_kept}
 use Rattle.consensus.specs.Events.{restart, event_ok}
-use Rattle.consensus.specs.OnSlot.{on_slot}
+use Rattle.consensus.specs.OnSlot.{Outcome, Becomes, Refused, on_slot}
 use Rattle.consensus.specs.Step.{table_ok, refuse, settle, all_saved_kept, restart_slots, on_restart, on_event, step}
 use Rattle.step_laws.specs.ByTest.{by_answer}
 use Rattle.step_laws.specs.LayoutLaws.{length_with_room, head_of_with_room, room_at_with_room, room_at_other}

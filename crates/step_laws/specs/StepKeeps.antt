@@ -8,14 +8,12 @@ use Rattle.consensus.specs.declared.Head.{Head}
 use Rattle.consensus.specs.declared.Room.{Room}
 use Rattle.consensus.specs.declared.Event.{Event}
 use Rattle.consensus.specs.declared.Message.{Message}
-use Rattle.consensus.specs.declared.Answer.TheVariants.{Quiet, Sends}
-use Rattle.consensus.specs.declared.Outcome.{Outcome}
-use Rattle.consensus.specs.declared.Outcome.TheVariants.{Becomes, Refused}
+use Rattle.consensus.specs.Answers.{Quiet, Sends}
 use Rattle.consensus.specs.Room.{promised}
 use Rattle.consensus.specs.Layout.{slots, head_of, room_at}
 use Rattle.consensus.specs.WellKept.{saved_kept, well_kept}
 use Rattle.consensus.specs.Events.{collect, begin, restart}
-use Rattle.consensus.specs.OnSlot.{too_old, on_collect, on_begin, restarted, on_slot}
+use Rattle.consensus.specs.OnSlot.{Outcome, Becomes, Refused, too_old, on_collect, on_begin, restarted, on_slot}
 use Rattle.consensus.specs.Step.{Stepped, settle, step}
 use Rattle.step_laws.specs.LayoutLaws.{with_room_room_at, length_restart_slots, head_of_restart_slots, room_at_restarted}
 use Rattle.step_laws.specs.HeadLaws.{table_clauses}

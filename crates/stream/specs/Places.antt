@@ -1,8 +1,8 @@
 -- Where a line stands in a buffer.
 -- Relies on nothing. Cited by next_line's contract.
-use Rattle.std.specs.Prelude.{ℕ, ◌≤◌}
-use Rattle.stream.specs.declared.Line.{Line}
-use Rattle.stream.specs.declared.Line.TheVariants.{At, Bad, None}
+use Rattle.std.specs.Prelude.{ℕ, ◌≤◌, Some, None}
+use Rattle.std.specs.declared.option.Option.{Option}
+use Rattle.stream.specs.declared.input.Place.{Place}
 
 -- a line stands from `start` up to `end` in the bytes there are, and these in a buffer of n bytes
 pub record Placed (n start end stop : ℕ) : Type 0 where
@@ -10,7 +10,7 @@ pub record Placed (n start end stop : ℕ) : Type 0 where
   pub there : end ≤ stop
   pub within : stop ≤ n
 
-abbrev pub PlacedIn : ℕ → Line → Type 0
-PlacedIn n (At start end stop) = Placed n start end stop
-PlacedIn n Bad = Unit {0}
+-- a line that there is has its place
+abbrev pub PlacedIn : ℕ → Option Place → Type 0
+PlacedIn n (Some p) = Placed n p.start p.end p.stop
 PlacedIn n None = Unit {0}

@@ -1,9 +1,9 @@
 -- What next_line's contract says of a line that is there.
 -- Relies on Places. For whoever cuts lines out of a buffer.
-use Rattle.std.specs.Prelude.{ℕ, ◌≡◌}
-use Rattle.stream.specs.declared.Line.{Line}
-use Rattle.stream.specs.declared.Line.TheVariants.{At}
+use Rattle.std.specs.Prelude.{ℕ, ◌≡◌, Some}
+use Rattle.std.specs.declared.option.Option.{Option}
+use Rattle.stream.specs.declared.input.Place.{Place}
 use Rattle.stream.specs.Places.{Placed, PlacedIn}
 
-pub placed : (n start end stop : ℕ) (l : Line) → PlacedIn n l → l ≡ At start end stop → Placed n start end stop
-placed n start end stop l p e = rw e at p
+pub placed : (n : ℕ) (p : Place) (found : Option Place) → PlacedIn n found → found ≡ Some p → Placed n p.start p.end p.stop
+placed n p found in_place e = rw e at in_place

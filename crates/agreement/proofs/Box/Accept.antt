@@ -7,12 +7,11 @@ use Rattle.ballots.specs.Boxes.{with_box}
 use Rattle.consensus.specs.declared.Head.{Head}
 use Rattle.consensus.specs.declared.Room.{Room}
 use Rattle.consensus.specs.declared.Event.{Event}
-use Rattle.consensus.specs.declared.Outcome.TheVariants.{Becomes}
-use Rattle.consensus.specs.declared.Answer.TheVariants.{Quiet, NotAwaited}
+use Rattle.consensus.specs.Answers.{Quiet, NotAwaited}
 use Rattle.consensus.specs.Room.{own_ballot, own_value, lasts, accepts, agreed, begun as begun_phase, round, room, no_round}
 use Rattle.consensus.specs.Enough.{enough_to_begin}
 use Rattle.consensus.specs.Events.{accept, success}
-use Rattle.consensus.specs.OnSlot.{all_boxes, send, awaited, on_accept}
+use Rattle.consensus.specs.OnSlot.{Becomes, all_boxes, send, awaited, on_accept}
 use Rattle.step_laws.specs.ByTest.{by_answer}
 use Rattle.step_laws.specs.KeptLaws.{kept_clauses}
 use Rattle.step_laws.specs.EventLaws.{accept_clauses}

@@ -6,11 +6,10 @@ use Rattle.std.proofs.Common.{inl, inr, arith, ltb-false}
 use Rattle.consensus.specs.declared.Head.{Head}
 use Rattle.consensus.specs.declared.Room.{Room}
 use Rattle.consensus.specs.declared.Event.{Event}
-use Rattle.consensus.specs.declared.Outcome.TheVariants.{Becomes}
 use Rattle.ballots.specs.BallotLaws.{ballot_not_zero}
 use Rattle.consensus.specs.Room.{promised, agreed, vote, saved, room}
 use Rattle.consensus.specs.Events.{begin, accept}
-use Rattle.consensus.specs.OnSlot.{send, on_begin}
+use Rattle.consensus.specs.OnSlot.{Becomes, send, on_begin}
 use Rattle.step_laws.specs.ByTest.{by_answer}
 use Rattle.step_laws.specs.EventLaws.{begin_clauses}
 use Rattle.agreement.specs.Ledger.Update.{update_same}

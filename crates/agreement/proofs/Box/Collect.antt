@@ -6,10 +6,9 @@ use Rattle.std.proofs.Math.Path.{subst⁻¹}
 use Rattle.consensus.specs.declared.Head.{Head}
 use Rattle.consensus.specs.declared.Room.{Room}
 use Rattle.consensus.specs.declared.Event.{Event}
-use Rattle.consensus.specs.declared.Outcome.TheVariants.{Becomes}
 use Rattle.consensus.specs.Room.{promised, agreed, accepted_ballot, accepted_value, saved, room}
 use Rattle.consensus.specs.Events.{collect, last}
-use Rattle.consensus.specs.OnSlot.{send, too_old, on_collect}
+use Rattle.consensus.specs.OnSlot.{Becomes, send, too_old, on_collect}
 use Rattle.step_laws.specs.ByTest.{by_answer}
 use Rattle.agreement.specs.Ledger.Update.{update_same}
 use Rattle.agreement.specs.Ledger.{Lasting, Ledger, Said, proposed, reported, begun, promising, after_report, reports, stays, moves}

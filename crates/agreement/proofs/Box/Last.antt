@@ -10,12 +10,11 @@ use Rattle.consensus.specs.declared.Head.{Head}
 use Rattle.consensus.specs.declared.Vote.{Vote}
 use Rattle.consensus.specs.declared.Room.{Room}
 use Rattle.consensus.specs.declared.Event.{Event}
-use Rattle.consensus.specs.declared.Outcome.TheVariants.{Becomes}
-use Rattle.consensus.specs.declared.Answer.TheVariants.{Quiet, NotAwaited}
+use Rattle.consensus.specs.Answers.{Quiet, NotAwaited}
 use Rattle.consensus.specs.Room.{own_ballot, best_ballot, lasts, accepts, agreed, collecting, begun as begun_phase, vote, round, room, no_vote}
 use Rattle.consensus.specs.Enough.{enough_to_collect}
 use Rattle.consensus.specs.Events.{last, begin}
-use Rattle.consensus.specs.OnSlot.{all_boxes, send, awaited, better, to_begin, on_last}
+use Rattle.consensus.specs.OnSlot.{Becomes, all_boxes, send, awaited, better, to_begin, on_last}
 use Rattle.step_laws.specs.ByTest.{by_test, by_answer}
 use Rattle.step_laws.specs.KeptLaws.{RunningKept, kept_clauses}
 use Rattle.step_laws.specs.EventLaws.{last_clauses}

@@ -8,8 +8,8 @@ use Rattle.consensus.specs.declared.Saved.{Saved}
 use Rattle.consensus.specs.declared.Round.{Round}
 use Rattle.consensus.specs.declared.Room.{Room}
 use Rattle.consensus.specs.declared.Event.{Event}
-use Rattle.consensus.specs.declared.Answer.{Answer}
-use Rattle.consensus.specs.declared.Outcome.TheVariants.{Becomes, Refused}
+use Rattle.consensus.specs.Answers.{Answer}
+use Rattle.consensus.specs.OnSlot.{Becomes, Refused}
 use Rattle.consensus.specs.Room.{phase, own_ballot, agreed, collecting, room, no_round}
 use Rattle.consensus.specs.Events.{collect, last, begin, accept, success}
 use Rattle.agreement.specs.Ledger.{Ledger, Said, ◌⊑◌, begun, stays}

@@ -10,12 +10,10 @@ use Rattle.ballots.specs.BoxesLaws.{zero_holds_none}
 use Rattle.consensus.specs.declared.Head.{Head}
 use Rattle.consensus.specs.declared.Room.{Room}
 use Rattle.consensus.specs.declared.Event.{Event}
-use Rattle.consensus.specs.declared.Outcome.{Outcome}
-use Rattle.consensus.specs.declared.Outcome.TheVariants.{Becomes}
-use Rattle.consensus.specs.declared.Answer.TheVariants.{AlreadyAgreed, NoBallotLeft}
+use Rattle.consensus.specs.Answers.{AlreadyAgreed, NoBallotLeft}
 use Rattle.consensus.specs.Room.{promised, agreed, collecting, vote, saved, round, room, no_vote}
 use Rattle.consensus.specs.Events.{propose, collect}
-use Rattle.consensus.specs.OnSlot.{all_boxes, send, on_propose}
+use Rattle.consensus.specs.OnSlot.{Outcome, Becomes, all_boxes, send, on_propose}
 use Rattle.step_laws.specs.ByTest.{by_answer}
 use Rattle.agreement.specs.Ledger.Update.{update_same}
 use Rattle.agreement.specs.Ledger.{Lasting, Ledger, Said, opened, proposed, begun, promising, after_open, opens, stays, moves}

@@ -7,11 +7,10 @@ use Rattle.std.proofs.Math.Nat.{le-max_left}
 use Rattle.consensus.specs.declared.Head.{Head}
 use Rattle.consensus.specs.declared.Room.{Room}
 use Rattle.consensus.specs.declared.Event.{Event}
-use Rattle.consensus.specs.declared.Outcome.TheVariants.{Becomes}
-use Rattle.consensus.specs.declared.Answer.TheVariants.{Quiet, NotAwaited, OtherAgreed}
+use Rattle.consensus.specs.Answers.{Quiet, NotAwaited, OtherAgreed}
 use Rattle.consensus.specs.Room.{promised, phase, own_ballot, agreed, idle, saved, room, no_round}
 use Rattle.consensus.specs.Events.{success}
-use Rattle.consensus.specs.OnSlot.{on_success, on_old_round}
+use Rattle.consensus.specs.OnSlot.{Becomes, on_success, on_old_round}
 use Rattle.step_laws.specs.ByTest.{by_answer}
 use Rattle.agreement.specs.Ledger.Update.{update_same}
 use Rattle.agreement.specs.Ledger.{Lasting, Ledger, promising, after_raise, raises, stays, moves}

@@ -7,13 +7,11 @@ use Rattle.consensus.specs.declared.Vote.{Vote}
 use Rattle.consensus.specs.declared.Round.{Round}
 use Rattle.consensus.specs.declared.Room.{Room}
 use Rattle.consensus.specs.declared.Message.{Message}
-use Rattle.consensus.specs.declared.Answer.TheVariants.{Sends}
-use Rattle.consensus.specs.declared.Outcome.TheVariants.{Becomes}
 use Rattle.consensus.specs.Room.{promised, agreed, collecting, begun, vote, saved, round, room, no_vote}
 use Rattle.consensus.specs.Events.{collect, last, begin, accept, success, event, event_ok}
-use Rattle.consensus.specs.OnSlot.{all_boxes, on_propose, on_slot}
+use Rattle.consensus.specs.OnSlot.{Becomes, all_boxes, on_propose, on_slot}
 use Rattle.consensus.specs.Step.{step}
-use Rattle.consensus.specs.Answers.{answer_number}
+use Rattle.consensus.specs.Answers.{Sends, answer_number}
 use Rattle.step_laws.specs.EventTests.{clauses_propose}
 use Rattle.agreement.specs.Runs.{World, Among, after, says, has_promised, has_accepted}
 use Rattle.agreement.specs.Runs.Keeps.{head_in, RunKept, reachable_kept}

@@ -9,13 +9,10 @@ use Rattle.consensus.specs.declared.Head.{Head}
 use Rattle.consensus.specs.declared.Room.{Room}
 use Rattle.consensus.specs.declared.Event.{Event}
 use Rattle.consensus.specs.declared.Message.{Message}
-use Rattle.consensus.specs.declared.Answer.{Answer}
-use Rattle.consensus.specs.declared.Answer.TheVariants.{Quiet, Sends}
-use Rattle.consensus.specs.declared.Outcome.{Outcome}
 use Rattle.consensus.specs.Room.{phase, own_ballot, collecting}
 use Rattle.consensus.specs.Layout.{slots, head_of, room_at}
-use Rattle.consensus.specs.Answers.{answer_number}
-use Rattle.consensus.specs.OnSlot.{restarted}
+use Rattle.consensus.specs.Answers.{Answer, Quiet, Sends, answer_number}
+use Rattle.consensus.specs.OnSlot.{Outcome, restarted}
 use Rattle.consensus.specs.Step.{Stepped, step}
 use Rattle.step_laws.specs.KeptLaws.{kept_clauses}
 use Rattle.step_laws.specs.HeadLaws.{table_clauses}

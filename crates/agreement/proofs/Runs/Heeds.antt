@@ -6,11 +6,10 @@ use Rattle.ballots.specs.Ballot.{max_boxes}
 use Rattle.consensus.specs.declared.Head.{Head}
 use Rattle.consensus.specs.declared.Room.{Room}
 use Rattle.consensus.specs.declared.Event.{Event}
-use Rattle.consensus.specs.declared.Answer.TheVariants.{Quiet}
 use Rattle.consensus.specs.Room.{agreed}
 use Rattle.consensus.specs.Layout.{slots, head_of, room_at}
 use Rattle.consensus.specs.Events.{success, restart, event_ok}
-use Rattle.consensus.specs.Answers.{answer_number}
+use Rattle.consensus.specs.Answers.{Quiet, answer_number}
 use Rattle.consensus.specs.OnSlot.{on_success, on_slot, restarted}
 use Rattle.consensus.specs.Step.{Stepped, step}
 use Rattle.step_laws.specs.StepCases.{room_after, step_at_restart}

@@ -10,15 +10,12 @@ use Rattle.consensus.specs.declared.Head.{Head}
 use Rattle.consensus.specs.declared.Room.{Room}
 use Rattle.consensus.specs.declared.Event.{Event}
 use Rattle.consensus.specs.declared.Message.{Message}
-use Rattle.consensus.specs.declared.Answer.{Answer}
-use Rattle.consensus.specs.declared.Answer.TheVariants.{Quiet, Sends}
-use Rattle.consensus.specs.declared.Outcome.{Outcome}
 use Rattle.consensus.specs.Room.{promised, phase, own_ballot, lasts, accepts, agreed, idle, collecting, begun}
 use Rattle.consensus.specs.Layout.{slots, head_of, room_at}
 use Rattle.consensus.specs.Enough.{enough_to_collect, enough_to_begin}
 use Rattle.consensus.specs.Events.{propose, restart, event_ok}
-use Rattle.consensus.specs.Answers.{numbers_of}
-use Rattle.consensus.specs.OnSlot.{awaited, on_propose, on_collect, on_last, on_begin, on_accept, on_success, on_old_round, on_slot}
+use Rattle.consensus.specs.Answers.{Answer, Quiet, Sends, numbers_of}
+use Rattle.consensus.specs.OnSlot.{Outcome, awaited, on_propose, on_collect, on_last, on_begin, on_accept, on_success, on_old_round, on_slot}
 use Rattle.consensus.specs.Step.{Stepped, step}
 use Rattle.step_laws.specs.ByTest.{by_either}
 use Rattle.step_laws.specs.HeadLaws.{HeadKept, table_clauses}

@@ -10,13 +10,12 @@ use Rattle.ballots.specs.Boxes.{with_box}
 use Rattle.consensus.specs.declared.Head.{Head}
 use Rattle.consensus.specs.declared.Room.{Room}
 use Rattle.consensus.specs.declared.Event.{Event}
-use Rattle.consensus.specs.declared.Outcome.{Outcome}
 use Rattle.consensus.specs.Room.{promised, phase, own_ballot, lasts, accepts, agreed, idle, collecting, begun}
 use Rattle.consensus.specs.Layout.{slots, head_of, room_at}
 use Rattle.consensus.specs.Enough.{enough_to_collect}
 use Rattle.consensus.specs.WellKept.{well_kept}
 use Rattle.consensus.specs.Answers.{answer_number}
-use Rattle.consensus.specs.OnSlot.{awaited, on_propose, on_collect, on_last, on_begin, on_accept, on_success, on_old_round, on_slot}
+use Rattle.consensus.specs.OnSlot.{Outcome, awaited, on_propose, on_collect, on_last, on_begin, on_accept, on_success, on_old_round, on_slot}
 use Rattle.consensus.specs.Step.{Stepped, step}
 use Rattle.step_laws.specs.ByTest.{by_test, by_either, by_answer}
 use Rattle.step_laws.specs.KeptLaws.{kept_clauses}

@@ -7,7 +7,7 @@ use Rattle.std.proofs.lemmas.Bool.{eqb-false}
 use Rattle.ballots.specs.Ballot.{maker_of}
 use Rattle.consensus.specs.declared.Event.{Event}
 use Rattle.consensus.specs.declared.Message.{Message}
-use Rattle.consensus.specs.declared.Answer.TheVariants.{Sends}
+use Rattle.consensus.specs.Answers.{Sends}
 use Rattle.consensus.specs.Layout.{slots, room_at}
 use Rattle.consensus.specs.Events.{propose, restart}
 use Rattle.consensus.specs.Step.{step}

@@ -9,11 +9,10 @@ use Rattle.ballots.specs.Boxes.{smallest_majority}
 use Rattle.consensus.specs.declared.Room.{Room}
 use Rattle.consensus.specs.declared.Event.{Event}
 use Rattle.consensus.specs.declared.Message.{Message}
-use Rattle.consensus.specs.declared.Answer.TheVariants.{Sends}
 use Rattle.consensus.specs.Room.{agreed}
 use Rattle.consensus.specs.Layout.{slots, room_at}
 use Rattle.consensus.specs.Events.{propose, collect, last, success, restart, event, event_ok}
-use Rattle.consensus.specs.Answers.{answer_number}
+use Rattle.consensus.specs.Answers.{Sends, answer_number}
 use Rattle.consensus.specs.OnSlot.{all_boxes}
 use Rattle.step_laws.specs.LayoutLaws.{room_at_fresh}
 use Rattle.step_laws.specs.EventTests.{clauses_restart}

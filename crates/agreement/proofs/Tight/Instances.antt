@@ -4,10 +4,8 @@ use Rattle.std.proofs.Common.{ap, ◌∙◌, arith, lit<, lit≤, eq-eqb}
 use Rattle.std.proofs.lemmas.Bool.{eqb-false}
 use Rattle.consensus.specs.declared.Event.{Event}
 use Rattle.consensus.specs.declared.Message.{Message}
-use Rattle.consensus.specs.declared.Answer.{Answer}
-use Rattle.consensus.specs.declared.Answer.TheVariants.{Quiet, Sends}
 use Rattle.consensus.specs.Events.{success, restart}
-use Rattle.consensus.specs.Answers.{answer_number}
+use Rattle.consensus.specs.Answers.{Answer, Quiet, Sends, answer_number}
 use Rattle.consensus.specs.Step.{step}
 use Rattle.step_laws.specs.ByTest.{by_test}
 use Rattle.agreement.specs.Promises.{Promises}

@@ -9,14 +9,12 @@ use Rattle.consensus.specs.declared.Round.{Round}
 use Rattle.consensus.specs.declared.Room.{Room}
 use Rattle.consensus.specs.declared.Event.{Event}
 use Rattle.consensus.specs.declared.Message.{Message}
-use Rattle.consensus.specs.declared.Answer.TheVariants.{Sends}
-use Rattle.consensus.specs.declared.Outcome.TheVariants.{Becomes}
 use Rattle.consensus.specs.Room.{promised, accepted_ballot, accepted_value, agreed, idle, vote, saved, room}
 use Rattle.consensus.specs.Layout.{slots}
 use Rattle.consensus.specs.Events.{collect, last, begin, accept, event}
-use Rattle.consensus.specs.OnSlot.{all_boxes, on_collect, on_begin, on_slot}
+use Rattle.consensus.specs.OnSlot.{Becomes, all_boxes, on_collect, on_begin, on_slot}
 use Rattle.consensus.specs.Step.{step}
-use Rattle.consensus.specs.Answers.{answer_number}
+use Rattle.consensus.specs.Answers.{Sends, answer_number}
 use Rattle.agreement.specs.Runs.{World, Among, after, says, has_saved}
 use Rattle.agreement.specs.Runs.Keeps.{head_in, RunKept}
 use Rattle.agreement.specs.Finishing.{Listed, parcel, Turns, turn}

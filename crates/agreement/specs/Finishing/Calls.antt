@@ -6,11 +6,10 @@ use Rattle.std.proofs.Math.Decide.{ℕ_discrete}
 use Rattle.consensus.specs.declared.Head.{Head}
 use Rattle.consensus.specs.declared.Room.{Room}
 use Rattle.consensus.specs.declared.Event.{Event}
-use Rattle.consensus.specs.declared.Answer.{Answer}
-use Rattle.consensus.specs.declared.Outcome.TheVariants.{Becomes}
+use Rattle.consensus.specs.Answers.{Answer}
 use Rattle.consensus.specs.Layout.{slots, head_of, room_at}
 use Rattle.consensus.specs.Events.{restart, event_ok}
-use Rattle.consensus.specs.OnSlot.{all_boxes, on_slot}
+use Rattle.consensus.specs.OnSlot.{Becomes, all_boxes, on_slot}
 use Rattle.consensus.specs.Step.{step}
 use Rattle.step_laws.specs.KeptLaws.{WellKept, kept_clauses}
 use Rattle.step_laws.specs.StepCases.{room_after, answer_of, outcome_of}

@@ -12,15 +12,12 @@ use Rattle.consensus.specs.declared.Round.{Round}
 use Rattle.consensus.specs.declared.Room.{Room}
 use Rattle.consensus.specs.declared.Event.{Event}
 use Rattle.consensus.specs.declared.Message.{Message}
-use Rattle.consensus.specs.declared.Answer.{Answer}
-use Rattle.consensus.specs.declared.Answer.TheVariants.{Quiet, Sends}
-use Rattle.consensus.specs.declared.Outcome.TheVariants.{Becomes}
 use Rattle.consensus.specs.Room.{own_value, agreed, idle, room}
 use Rattle.consensus.specs.Layout.{slots}
 use Rattle.consensus.specs.Events.{event}
-use Rattle.consensus.specs.OnSlot.{on_slot}
+use Rattle.consensus.specs.OnSlot.{Becomes, on_slot}
 use Rattle.consensus.specs.Step.{step}
-use Rattle.consensus.specs.Answers.{answer_number}
+use Rattle.consensus.specs.Answers.{Answer, Quiet, Sends, answer_number}
 use Rattle.agreement.specs.Runs.{World, Among, after, MayCall, has_saved}
 use Rattle.agreement.specs.Runs.Keeps.{head_in}
 use Rattle.agreement.specs.Finishing.{Listed, Distinct, parcel, Turns, turn}

@@ -9,14 +9,12 @@ use Rattle.consensus.specs.declared.Head.{Head}
 use Rattle.consensus.specs.declared.Room.{Room}
 use Rattle.consensus.specs.declared.Event.{Event}
 use Rattle.consensus.specs.declared.Message.{Message}
-use Rattle.consensus.specs.declared.Answer.{Answer}
-use Rattle.consensus.specs.declared.Answer.TheVariants.{Quiet, Sends, BadTable, BadEvent, NotWellKept, NotAwaited, AlreadyAgreed, OtherAgreed, NoBallotLeft}
 use Rattle.consensus.specs.Room.{saved, no_vote}
 use Rattle.consensus.specs.Layout.{slots, head_of, room_at, fresh}
 use Rattle.consensus.specs.WellKept.{well_kept}
 use Rattle.consensus.specs.Events.{propose, restart, event_ok}
 use Rattle.consensus.specs.Step.{Stepped, table_ok, step}
-use Rattle.consensus.specs.Answers.{answer_number}
+use Rattle.consensus.specs.Answers.{Answer, Quiet, Sends, BadTable, BadEvent, NotWellKept, NotAwaited, AlreadyAgreed, OtherAgreed, NoBallotLeft, answer_number}
 use Rattle.step_laws.specs.ByTest.{by_test, by_answer}
 use Rattle.step_laws.specs.LayoutLaws.{fresh_room, length_fresh, room_at_fresh}
 use Rattle.step_laws.specs.HeadLaws.{HeadKept, table_clauses, clauses_table}

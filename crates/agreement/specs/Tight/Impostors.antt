@@ -8,17 +8,13 @@ use Rattle.consensus.specs.declared.Head.{Head}
 use Rattle.consensus.specs.declared.Room.{Room}
 use Rattle.consensus.specs.declared.Event.{Event}
 use Rattle.consensus.specs.declared.Message.{Message}
-use Rattle.consensus.specs.declared.Answer.{Answer}
-use Rattle.consensus.specs.declared.Answer.TheVariants.{Quiet, Sends, BadTable, BadEvent, NotWellKept}
-use Rattle.consensus.specs.declared.Outcome.{Outcome}
-use Rattle.consensus.specs.declared.Outcome.TheVariants.{Becomes, Refused}
 use Rattle.consensus.specs.Room.{promised, own_ballot, own_value, accepts, agreed, saved, room}
 use Rattle.consensus.specs.Layout.{slots, head_of, room_at, with_room}
 use Rattle.consensus.specs.Enough.{enough_to_collect, enough_to_begin}
 use Rattle.consensus.specs.WellKept.{saved_kept, round_kept, idle_kept, running_kept, collecting_kept, begun_kept, phase_kept, well_kept}
 use Rattle.consensus.specs.Events.{propose, collect, begin, accept, old_round, restart, event, field_ok, second_ok, value_ok, maker_ok, kind_ok, fields_ok, event_ok}
-use Rattle.consensus.specs.Answers.{numbers_of, answer_number}
-use Rattle.consensus.specs.OnSlot.{send, too_old, on_propose, on_collect, on_last, on_begin, on_accept, on_success, on_old_round, on_slot}
+use Rattle.consensus.specs.Answers.{Answer, Quiet, Sends, BadTable, BadEvent, NotWellKept, numbers_of, answer_number}
+use Rattle.consensus.specs.OnSlot.{Outcome, Becomes, Refused, send, too_old, on_propose, on_collect, on_last, on_begin, on_accept, on_success, on_old_round, on_slot}
 use Rattle.consensus.specs.Step.{Stepped, table_ok, refuse, settle, all_saved_kept, restart_slots, on_restart, step}
 use Rattle.agreement.specs.Runs.{StepFunction}
 

@@ -8,13 +8,11 @@ use Rattle.consensus.specs.declared.Head.{Head}
 use Rattle.consensus.specs.declared.Vote.{Vote}
 use Rattle.consensus.specs.declared.Room.{Room}
 use Rattle.consensus.specs.declared.Event.{Event}
-use Rattle.consensus.specs.declared.Answer.TheVariants.{Quiet, NotAwaited}
-use Rattle.consensus.specs.declared.Outcome.{Outcome}
-use Rattle.consensus.specs.declared.Outcome.TheVariants.{Becomes, Refused}
+use Rattle.consensus.specs.Answers.{Quiet, NotAwaited}
 use Rattle.consensus.specs.Room.{best_ballot, best_value, lasts, collecting, own_value, vote}
 use Rattle.consensus.specs.Enough.{enough_to_collect}
 use Rattle.consensus.specs.Events.{last}
-use Rattle.consensus.specs.OnSlot.{awaited, collects_on, begins}
+use Rattle.consensus.specs.OnSlot.{Outcome, Becomes, Refused, awaited, collects_on, begins}
 use Rattle.agreement.specs.Runs.{StepFunction}
 use Rattle.agreement.specs.Tight.Impostors.{step_keeping, step_with, instead}
 

@@ -5,8 +5,7 @@ use Rattle.std.proofs.Math.Path.{refl}
 use Rattle.std.proofs.Common.{◌∙◌}
 use borrow.Author.Tests.{eq-eqb, ne_eqb}
 use Rattle.consensus.specs.declared.Event.{Event}
-use Rattle.consensus.specs.declared.Answer.{Answer}
-use Rattle.consensus.specs.declared.Answer.TheVariants.{Quiet, BadTable, BadEvent, NotWellKept}
+use Rattle.consensus.specs.Answers.{Answer, Quiet, BadTable, BadEvent, NotWellKept}
 use Rattle.consensus.specs.Layout.{slots, head_of, room_at}
 use Rattle.consensus.specs.WellKept.{well_kept}
 use Rattle.consensus.specs.Events.{restart, event_ok}

@@ -1,11 +1,6 @@
 -- `entry_of`: at the loop's head the walk has come to slot s.
-use Rattle.std.proofs.Common.{◌-◌}
-use Rattle.consensus.specs.Layout.{slots}
 use Rattle.board.proofs.Walk.{Walked}
 use Rattle.board.proofs.entry_of.Given as goal
 
 abbrev pub invariant-loop-s : goal.invariant-loop-s
 invariant-loop-s l = Walked l.table l.link l.entry l.known l.s
-
-abbrev pub decreases-loop-s : goal.decreases-loop-s
-decreases-loop-s l = slots - l.s

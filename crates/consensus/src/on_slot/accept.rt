@@ -1,14 +1,13 @@
 // Accept: a box counts a vote, and agrees once the counted are enough.
 // Relies on specs/OnSlot.antt.
 ghost use Rattle.std.specs.Prelude.{◌≡◌};
-ghost use Rattle.consensus.specs.OnSlot.{begun_on, agrees, on_accept};
+ghost use Rattle.consensus.specs.OnSlot.{outcome_by_rules, begun_on, agrees, on_accept};
 
-use super::awaited::awaited;
-use super::message::{ALL_BOXES, send};
-use super::nothing::no_round;
-use crate::events::SUCCESS;
-use crate::kept::{BEGUN, enough_to_begin};
-use crate::{Answer, Event, Head, Outcome, Room, Round};
+use super::Outcome;
+use super::turn::{ALL_BOXES, Turn};
+use crate::kept::enough_to_begin;
+use crate::phase::Phase;
+use crate::{Kind, Refusal, Room, Round};
 use ballots::Ballot;
 use ballots::boxes::with_box;
 
@@ -16,61 +15,41 @@ use ballots::boxes::with_box;
 fn begun_on(room: Room, counted: u64) -> Room
     ensures { result ≡ begun_on room counted }
 {
-    let saved = room.saved;
-    let round = room.round;
-    let own = round.own;
-    let best = round.best;
-    let next = Round {
-        phase: BEGUN,
-        own: own,
-        best: best,
-        lasts: round.lasts,
-        accepts: counted,
-    };
     Room {
-        saved: saved,
-        round: next,
-        agreed: room.agreed,
+        round: Round {
+            phase: Phase::Begun.into(),
+            accepts: counted,
+            ..room.round
+        },
+        ..room
     }
 }
 
 // Enough were counted: the own value is agreed.
-fn agrees(head: Head, room: Room, event: Event) -> Outcome
-    ensures { result ≡ agrees head room event }
+fn agrees(turn: Turn) -> Outcome
+    ensures { outcome_by_rules result ≡ agrees turn.head turn.room turn.event }
 {
-    let saved = room.saved;
-    let round = room.round;
-    let own = round.own;
-    let answer = send(
-        head,
-        event,
-        ALL_BOXES,
-        SUCCESS,
-        Ballot(0),
-        Ballot(0),
-        own.value,
-    );
-    Outcome::Becomes(
-        Room {
-            saved: saved,
-            round: no_round(),
-            agreed: own.value,
-        },
-        answer,
-    )
+    let value = turn.room.round.own.value;
+    let next = Room {
+        round: Round::default(),
+        agreed: value,
+        ..turn.room
+    };
+    let answer = turn.send(ALL_BOXES, Kind::Success, Ballot(0), Ballot(0), value);
+    Ok((next, Some(answer)))
 }
 
 #[tactic(auto, unfolding(crate::specs::OnSlot::on_accept))]
-pub fn on_accept(head: Head, room: Room, event: Event) -> Outcome
-    ensures { result ≡ on_accept head room event }
+pub fn on_accept(turn: Turn) -> Outcome
+    ensures { outcome_by_rules result ≡ on_accept turn.head turn.room turn.event }
 {
-    let round = room.round;
-    if !awaited(room, event, BEGUN, round.accepts) {
-        return Outcome::Refused(Answer::NotAwaited);
+    let Turn { room, event, .. } = turn;
+    if !turn.awaited(Phase::Begun, room.round.accepts) {
+        return Err(Refusal::NotAwaited);
     }
-    let counted = with_box(round.accepts, event.from);
-    if !enough_to_begin(head, counted) {
-        return Outcome::Becomes(begun_on(room, counted), Answer::Quiet);
+    let counted = with_box(room.round.accepts, event.from);
+    if !enough_to_begin(turn.head, counted) {
+        return Ok((begun_on(room, counted), None));
     }
-    agrees(head, room, event)
+    agrees(turn)
 }

@@ -1,38 +1,28 @@
 // Begin: a box accepts a ballot's value.
 // Relies on specs/OnSlot.antt.
 ghost use Rattle.std.specs.Prelude.{◌≡◌};
-ghost use Rattle.consensus.specs.OnSlot.{on_begin};
+ghost use Rattle.consensus.specs.OnSlot.{outcome_by_rules, on_begin};
 
-use super::message::{send, too_old};
-use crate::events::ACCEPT;
-use crate::{Event, Head, Outcome, Room, Saved, Vote};
+use super::Outcome;
+use super::turn::Turn;
+use crate::{Kind, Room, Saved, Vote};
 use ballots::Ballot;
 
 #[tactic(auto, unfolding(crate::specs::OnSlot::on_begin))]
-pub fn on_begin(head: Head, room: Room, event: Event) -> Outcome
-    ensures { result ≡ on_begin head room event }
+pub fn on_begin(turn: Turn) -> Outcome
+    ensures { outcome_by_rules result ≡ on_begin turn.head turn.room turn.event }
 {
-    let saved = room.saved;
-    let promised = saved.promised;
-    let ballot = event.ballot;
-    if ballot.0 < promised.0 {
-        return too_old(head, room, event);
+    let Turn { room, event, .. } = turn;
+    if event.ballot < room.saved.promised {
+        return turn.too_old();
     }
-    let accepted = Vote {
-        ballot: ballot,
-        value: event.value,
-    };
-    let round = room.round;
-    let answer = send(head, event, event.from, ACCEPT, ballot, Ballot(0), 0);
-    Outcome::Becomes(
-        Room {
-            saved: Saved {
-                promised: ballot,
-                accepted: accepted,
-            },
-            round: round,
-            agreed: room.agreed,
+    let saved = Saved {
+        promised: event.ballot,
+        accepted: Vote {
+            ballot: event.ballot,
+            value: event.value,
         },
-        answer,
-    )
+    };
+    let answer = turn.send(event.from, Kind::Accept, event.ballot, Ballot(0), 0);
+    Ok((Room { saved, ..room }, Some(answer)))
 }

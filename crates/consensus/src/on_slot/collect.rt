@@ -1,43 +1,31 @@
 // Collect: a box promises a ballot and reports what it has accepted.
 // Relies on specs/OnSlot.antt.
 ghost use Rattle.std.specs.Prelude.{◌≡◌};
-ghost use Rattle.consensus.specs.OnSlot.{on_collect};
+ghost use Rattle.consensus.specs.OnSlot.{outcome_by_rules, on_collect};
 
-use super::message::{send, too_old};
-use crate::events::LAST;
-use crate::{Event, Head, Outcome, Room, Saved};
+use super::Outcome;
+use super::turn::Turn;
+use crate::{Kind, Room, Saved};
 
 #[tactic(auto, unfolding(crate::specs::OnSlot::on_collect))]
-pub fn on_collect(head: Head, room: Room, event: Event) -> Outcome
-    ensures { result ≡ on_collect head room event }
+pub fn on_collect(turn: Turn) -> Outcome
+    ensures { outcome_by_rules result ≡ on_collect turn.head turn.room turn.event }
 {
-    let saved = room.saved;
-    let promised = saved.promised;
-    let ballot = event.ballot;
-    if ballot.0 < promised.0 {
-        return too_old(head, room, event);
+    let Turn { room, event, .. } = turn;
+    if event.ballot < room.saved.promised {
+        return turn.too_old();
     }
-    let accepted = saved.accepted;
-    let second = accepted.ballot;
-    let round = room.round;
-    let answer = send(
-        head,
-        event,
+    let accepted = room.saved.accepted;
+    let saved = Saved {
+        promised: event.ballot,
+        accepted,
+    };
+    let answer = turn.send(
         event.from,
-        LAST,
-        ballot,
-        second,
+        Kind::Last,
+        event.ballot,
+        accepted.ballot,
         accepted.value,
     );
-    Outcome::Becomes(
-        Room {
-            saved: Saved {
-                promised: ballot,
-                accepted: accepted,
-            },
-            round: round,
-            agreed: room.agreed,
-        },
-        answer,
-    )
+    Ok((Room { saved, ..room }, Some(answer)))
 }

@@ -1,14 +1,13 @@
 // Last: a box counts a report, and begins once the counted are enough.
 // Relies on specs/OnSlot.antt.
 ghost use Rattle.std.specs.Prelude.{◌≡◌};
-ghost use Rattle.consensus.specs.OnSlot.{better, to_begin, collects_on, begins, on_last};
+ghost use Rattle.consensus.specs.OnSlot.{outcome_by_rules, better, to_begin, collects_on, begins, on_last};
 
-use super::awaited::awaited;
-use super::message::{ALL_BOXES, send};
-use super::nothing::no_vote;
-use crate::events::BEGIN;
-use crate::kept::{BEGUN, COLLECTING, enough_to_collect};
-use crate::{Answer, Event, Head, Outcome, Room, Round, Vote};
+use super::Outcome;
+use super::turn::{ALL_BOXES, Turn};
+use crate::kept::enough_to_collect;
+use crate::phase::Phase;
+use crate::{Event, Kind, Refusal, Room, Round, Vote};
 use ballots::Ballot;
 use ballots::boxes::with_box;
 
@@ -16,13 +15,10 @@ use ballots::boxes::with_box;
 fn better(room: Room, event: Event) -> Vote
     ensures { result ≡ better room event }
 {
-    let round = room.round;
-    let best = round.best;
-    let best_ballot = best.ballot;
-    let second = event.second;
-    if best_ballot.0 < second.0 {
+    let best = room.round.best;
+    if best.ballot < event.second {
         Vote {
-            ballot: second,
+            ballot: event.second,
             value: event.value,
         }
     } else {
@@ -34,75 +30,54 @@ fn better(room: Room, event: Event) -> Vote
 fn to_begin(room: Room, best: Vote) -> u64
     ensures { result ≡ to_begin room best }
 {
-    let round = room.round;
-    let own = round.own;
-    let ballot = best.ballot;
-    if ballot.0 == 0 { own.value } else { best.value }
+    if best.ballot == Ballot(0) {
+        room.round.own.value
+    } else {
+        best.value
+    }
 }
 
 // The sender counted: the round goes on collecting.
 fn collects_on(room: Room, best: Vote, counted: u64) -> Room
     ensures { result ≡ collects_on room best counted }
 {
-    let saved = room.saved;
-    let round = room.round;
-    let own = round.own;
-    let next = Round {
-        phase: COLLECTING,
-        own: own,
-        best: best,
-        lasts: counted,
-        accepts: round.accepts,
-    };
     Room {
-        saved: saved,
-        round: next,
-        agreed: room.agreed,
+        round: Round {
+            phase: Phase::Collecting.into(),
+            best,
+            lasts: counted,
+            ..room.round
+        },
+        ..room
     }
 }
 
 // Enough were counted: the round begins with a value.
-fn begins(head: Head, room: Room, event: Event, value: u64) -> Outcome
-    ensures { result ≡ begins head room event value }
+fn begins(turn: Turn, value: u64) -> Outcome
+    ensures { outcome_by_rules result ≡ begins turn.head turn.room turn.event value }
 {
-    let saved = room.saved;
-    let round = room.round;
-    let own = round.own;
-    let ballot = own.ballot;
-    let begun = Vote {
-        ballot: ballot,
-        value: value,
+    let ballot = turn.room.round.own.ballot;
+    let round = Round {
+        phase: Phase::Begun.into(),
+        own: Vote { ballot, value },
+        ..Round::default()
     };
-    let next = Round {
-        phase: BEGUN,
-        own: begun,
-        best: no_vote(),
-        lasts: 0,
-        accepts: 0,
-    };
-    let answer = send(head, event, ALL_BOXES, BEGIN, ballot, Ballot(0), value);
-    Outcome::Becomes(
-        Room {
-            saved: saved,
-            round: next,
-            agreed: room.agreed,
-        },
-        answer,
-    )
+    let answer = turn.send(ALL_BOXES, Kind::Begin, ballot, Ballot(0), value);
+    Ok((Room { round, ..turn.room }, Some(answer)))
 }
 
 #[tactic(auto, unfolding(crate::specs::OnSlot::on_last))]
-pub fn on_last(head: Head, room: Room, event: Event) -> Outcome
-    ensures { result ≡ on_last head room event }
+pub fn on_last(turn: Turn) -> Outcome
+    ensures { outcome_by_rules result ≡ on_last turn.head turn.room turn.event }
 {
-    let round = room.round;
-    if !awaited(room, event, COLLECTING, round.lasts) {
-        return Outcome::Refused(Answer::NotAwaited);
+    let Turn { room, event, .. } = turn;
+    if !turn.awaited(Phase::Collecting, room.round.lasts) {
+        return Err(Refusal::NotAwaited);
     }
-    let counted = with_box(round.lasts, event.from);
+    let counted = with_box(room.round.lasts, event.from);
     let best = better(room, event);
-    if !enough_to_collect(head, counted) {
-        return Outcome::Becomes(collects_on(room, best, counted), Answer::Quiet);
+    if !enough_to_collect(turn.head, counted) {
+        return Ok((collects_on(room, best, counted), None));
     }
-    begins(head, room, event, to_begin(room, best))
+    begins(turn, to_begin(room, best))
 }

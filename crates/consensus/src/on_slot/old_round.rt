@@ -1,47 +1,29 @@
 // OldRound: a box drops its round and raises its promise.
 // Relies on specs/OnSlot.antt.
-ghost use Rattle.std.specs.Prelude.{◌≡◌, max};
-ghost use Rattle.consensus.specs.Room.{ballot};
-ghost use Rattle.consensus.specs.OnSlot.{on_old_round};
+ghost use Rattle.std.specs.Prelude.{◌≡◌};
+ghost use Rattle.consensus.specs.OnSlot.{outcome_by_rules, on_old_round};
 
-use super::nothing::no_round;
-use crate::kept::IDLE;
-use crate::{Answer, Event, Head, Outcome, Room, Saved};
-use ballots::Ballot;
-
-// The larger of two ballots.
-fn larger(a: Ballot, b: Ballot) -> Ballot
-    ensures { result ≡ ballot (max a.0 b.0) }
-{
-    if a.0 < b.0 { b } else { a }
-}
+use super::Outcome;
+use super::turn::Turn;
+use crate::phase::Phase;
+use crate::{Refusal, Room, Round, Saved};
 
 #[tactic(auto, unfolding(crate::specs::OnSlot::on_old_round))]
-pub fn on_old_round(head: Head, room: Room, event: Event) -> Outcome
-    ensures { result ≡ on_old_round head room event }
+pub fn on_old_round(turn: Turn) -> Outcome
+    ensures { outcome_by_rules result ≡ on_old_round turn.head turn.room turn.event }
 {
-    let saved = room.saved;
-    let promised = saved.promised;
-    let accepted = saved.accepted;
-    let round = room.round;
-    let own = round.own;
-    let own_ballot = own.ballot;
-    let ballot = event.ballot;
-    let second = event.second;
-    if (round.phase != IDLE) & (own_ballot.0 == ballot.0) {
-        let next = Saved {
-            promised: larger(promised, second),
-            accepted: accepted,
-        };
-        Outcome::Becomes(
-            Room {
-                saved: next,
-                round: no_round(),
-                agreed: room.agreed,
-            },
-            Answer::Quiet,
-        )
-    } else {
-        Outcome::Refused(Answer::NotAwaited)
+    let Turn { room, event, .. } = turn;
+    if (room.round.phase == u64::from(Phase::Idle)) | (room.round.own.ballot != event.ballot) {
+        return Err(Refusal::NotAwaited);
     }
+    let saved = Saved {
+        promised: room.saved.promised.max(event.second),
+        ..room.saved
+    };
+    let next = Room {
+        saved,
+        round: Round::default(),
+        ..room
+    };
+    Ok((next, None))
 }

@@ -1,52 +1,38 @@
 // Propose: a box opens a round of its own.
 // Relies on specs/OnSlot.antt.
-ghost use Rattle.std.specs.Prelude.{◌≡◌, ◌<◌};
-ghost use Rattle.ballots.specs.Ballot.{max_boxes};
-ghost use Rattle.consensus.specs.OnSlot.{on_propose};
+ghost use Rattle.std.specs.Prelude.{◌≡◌};
+ghost use Rattle.consensus.specs.OnSlot.{outcome_by_rules, on_propose};
 
-use super::message::{ALL_BOXES, send};
-use super::nothing::no_vote;
-use crate::events::COLLECT;
-use crate::kept::COLLECTING;
-use crate::{Answer, Event, Head, Outcome, Room, Round, Saved, Vote};
-use ballots::{Ballot, Next, next_ballot};
+use super::Outcome;
+use super::turn::{ALL_BOXES, Turn};
+use crate::phase::Phase;
+use crate::{Kind, Refusal, Room, Round, Saved, Vote};
+use ballots::{Ballot, next_ballot};
 
-#[tactic(auto, using(ballots::specs::BallotLaws::made_is_next, ballots::specs::BallotLaws::none_has_no_x), unfolding(crate::specs::OnSlot::on_propose))]
-pub fn on_propose(head: Head, room: Room, event: Event) -> Outcome
-    requires { head.index < max_boxes }
-    ensures { result ≡ on_propose head room event }
+#[tactic(auto, using(crate::proofs::Proposing::agreed_already, crate::proofs::Proposing::no_ballot_left, crate::proofs::Proposing::opens_a_round))]
+pub fn on_propose(turn: Turn) -> Outcome
+    ensures { outcome_by_rules result ≡ on_propose turn.head turn.room turn.event }
 {
+    let Turn { room, event, .. } = turn;
     if room.agreed != 0 {
-        return Outcome::Refused(Answer::AlreadyAgreed);
+        return Err(Refusal::AlreadyAgreed);
     }
-    let saved = room.saved;
-    let accepted = saved.accepted;
-    let promised = saved.promised;
-    match next_ballot(promised, head.index) {
-        Next::NoneLeft => Outcome::Refused(Answer::NoBallotLeft),
-        Next::Made(b) => {
-            let round = Round {
-                phase: COLLECTING,
-                own: Vote {
-                    ballot: b,
-                    value: event.value,
-                },
-                best: no_vote(),
-                lasts: 0,
-                accepts: 0,
-            };
-            let answer = send(head, event, ALL_BOXES, COLLECT, b, Ballot(0), 0);
-            Outcome::Becomes(
-                Room {
-                    saved: Saved {
-                        promised: b,
-                        accepted: accepted,
-                    },
-                    round: round,
-                    agreed: room.agreed,
-                },
-                answer,
-            )
-        }
-    }
+    let ballot = next_ballot(room.saved.promised, turn.head.index).ok_or(Refusal::NoBallotLeft)?;
+    let next = Room {
+        saved: Saved {
+            promised: ballot,
+            ..room.saved
+        },
+        round: Round {
+            phase: Phase::Collecting.into(),
+            own: Vote {
+                ballot,
+                value: event.value,
+            },
+            ..Round::default()
+        },
+        agreed: room.agreed,
+    };
+    let answer = turn.send(ALL_BOXES, Kind::Collect, ballot, Ballot(0), 0);
+    Ok((next, Some(answer)))
 }

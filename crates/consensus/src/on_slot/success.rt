@@ -1,28 +1,27 @@
 // Success: a box learns the agreed value.
 // Relies on specs/OnSlot.antt.
 ghost use Rattle.std.specs.Prelude.{◌≡◌};
-ghost use Rattle.consensus.specs.OnSlot.{on_success};
+ghost use Rattle.consensus.specs.OnSlot.{outcome_by_rules, on_success};
 
-use super::nothing::no_round;
-use crate::{Answer, Event, Head, Outcome, Room};
+use super::Outcome;
+use super::turn::Turn;
+use crate::{Refusal, Room, Round};
 
 #[tactic(auto, unfolding(crate::specs::OnSlot::on_success))]
-pub fn on_success(head: Head, room: Room, event: Event) -> Outcome
-    ensures { result ≡ on_success head room event }
+pub fn on_success(turn: Turn) -> Outcome
+    ensures { outcome_by_rules result ≡ on_success turn.head turn.room turn.event }
 {
-    let saved = room.saved;
+    let Turn { room, event, .. } = turn;
     if room.agreed == 0 {
-        return Outcome::Becomes(
-            Room {
-                saved: saved,
-                round: no_round(),
-                agreed: event.value,
-            },
-            Answer::Quiet,
-        );
+        let next = Room {
+            round: Round::default(),
+            agreed: event.value,
+            ..room
+        };
+        return Ok((next, None));
     }
     if room.agreed == event.value {
-        return Outcome::Refused(Answer::NotAwaited);
+        return Err(Refusal::NotAwaited);
     }
-    Outcome::Refused(Answer::OtherAgreed)
+    Err(Refusal::OtherAgreed)
 }

@@ -1,10 +1,6 @@
--- At the loop's head the numbers before i are read.
-use Rattle.std.proofs.Common.{length, ◌-◌}
+-- At the loop's head the numbers before the place of the loop are read, and `left` are to come.
 use Rattle.lines.proofs.Numbers.{ReadSoFar}
 use Rattle.lines.proofs.read_numbers.Given as goal
 
-abbrev pub invariant-loop-i : goal.invariant-loop-i
-invariant-loop-i l = ReadSoFar l.line l.fn.numbers l.at l.i l.numbers
-
-abbrev pub decreases-loop-i : goal.decreases-loop-i
-decreases-loop-i l = length l.initial.numbers - l.i
+abbrev pub invariant-loop-number : goal.invariant-loop-number
+invariant-loop-number g l = ReadSoFar l.line l.number-index-end l.number-index l.left l.number-items l.bytes

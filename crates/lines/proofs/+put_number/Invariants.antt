@@ -1,5 +1,0 @@
--- The recursion of put_number goes down with n.
-use Rattle.lines.proofs.+put_number.Given as goal
-
-abbrev pub decreases-put_number : goal.decreases-put_number
-decreases-put_number l = l.n

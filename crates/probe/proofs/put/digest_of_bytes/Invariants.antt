@@ -1,6 +1,0 @@
--- `probe::put::digest_of_bytes` ends.
-use Rattle.std.proofs.Common.{◌-◌, length}
-use Rattle.probe.proofs.put.digest_of_bytes.Given as goal
-
-abbrev pub decreases-loop-i : goal.decreases-loop-i
-decreases-loop-i l = length l.xs - l.i

@@ -1,0 +1,2 @@
+-- The lemmas that the proofs about an output cite.
+mod Put
