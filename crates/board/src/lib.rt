@@ -103,7 +103,7 @@ pub fn applied(entry: Entry, link: u64, value: u64) -> Entry
 }
 
 // The entry of a link: the commands of the known prefix, in slot order, from a free link on.
-// Every slot is looked at: to end the walk early is a request of its own (R-1).
+// Every slot is looked at, and a flag says whether all so far are agreed: that the walk ends early is a request of its own (R-1), built when it is asked for.
 #[tactic(auto, using(crate::proofs::Walk::walk_starts, crate::proofs::Walk::slot_counted, crate::proofs::Walk::slot_passed, crate::proofs::Walk::walk_ends))]
 fn entry_of(table: &[u64], link: u64) -> Entry
     ensures { result ≡ entry_of (known_prefix table.now) link }
@@ -134,7 +134,8 @@ pub fn board(table: &[u64], link: u64) -> Result<Entry, BoardRefusal>
     Ok(entry_of(table, link))
 }
 
-// The rules' number of an answer, and the owner, the revision and the ticket, which are zeros where it is refused.
+// The rules' number of an answer, and the owner, the revision and the ticket, which are zeros where it is refused. A function and no `From`, which
+// only the library could write for a `Result`.
 pub fn numbers_of(answer: Result<Entry, BoardRefusal>) -> [u64; 4]
     ensures { result ≡ numbers_of (answer_by_rules answer) }
 {

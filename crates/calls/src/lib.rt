@@ -98,7 +98,8 @@ pub fn bad_line(number: u64, out: &mut [u8]) -> Result<usize, ShortBuffer>
     lines::write_numbers(&[u64::from(CallRefusal::BadLine), number], out)
 }
 
-// The answer's number and the seven numbers of its message, which are zeros where there is none.
+// The answer's number and the seven numbers of its message, which are zeros where there is none. A function, which is
+// public and so stays, and no `From`, which only the library could write for a `Result`.
 pub fn numbers_of(answer: Result<Option<Message>, Refusal>) -> [u64; 8]
     ensures { result ≡ numbers_of (answer_by_rules answer) }
 {

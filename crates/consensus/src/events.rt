@@ -65,7 +65,7 @@ fn field_ok(used: u8, x: u64, rule: bool) -> bool
 }
 
 // In Last, second is zero or a ballot, at most ballot; in OldRound a ballot above ballot. Here and below, the event is taken for
-// one of `kind`.
+// one of `kind`, whichever it is, so that no fact of the two is asked for.
 #[tactic(auto, unfolding(crate::specs::Events::second_ok))]
 fn second_ok(boxes: u64, kind: Kind, event: Event) -> bool
     ensures { result ≡ second_ok boxes (of_kind kind event) }

@@ -10,7 +10,7 @@ use super::{Head, Room, Saved, Vote};
 use ballots::boxes::is_majority;
 use ballots::{Ballot, is_ballot, maker_of};
 
-// Whether the boxes that sent Last are enough to close a Collect. This and the next are two functions and no parameter, since each is held
+// Whether the boxes that sent Last are enough to close a Collect. This and the next are two functions, and not one with a parameter, since each is held
 // to a definition of its own, of which theorems speak.
 #[tactic(auto, unfolding(crate::specs::Enough::enough_to_collect))]
 pub fn enough_to_collect(head: Head, set: u64) -> bool

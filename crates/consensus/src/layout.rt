@@ -1,4 +1,4 @@
-// Where each number of a table stands. Nothing but this file knows 2, 11, 64 or 706.
+// Where each number of a table stands. Nothing but this file knows 2, 11, 64 or 706; only a fresh table's numbers 0 and 1 are written elsewhere, in `calls`.
 // Relies on specs/Layout.antt. Cited by the event check, the restart and the step. The rules ask for a lent slice, read and written at
 // stated places: so its length is a clause and no array's type, and a number is `table[at + k]` and no part of an array copied out or in.
 // Any slot number may be asked for, so its bound is a clause too, here and in the restart and the step.

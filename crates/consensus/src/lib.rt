@@ -101,7 +101,8 @@ pub fn table_ok(table: &[u64]) -> bool
     (1 <= head.boxes) & (head.boxes <= MAX_BOXES) & (head.index < head.boxes)
 }
 
-// What a slot has agreed: zero for nothing, as the rules have it, and where the table is bad or has no such slot.
+// What a slot has agreed: zero for nothing, and where the table is bad or has no such slot. Zero and no Option, since the definition `agreed_at`,
+// under the board's theorems, has the rules' "zero means none".
 #[tactic(auto, using(crate::specs::StepLaws::table_clauses), unfolding(crate::specs::Step::agreed_at))]
 pub fn agreed_at(table: &[u64], slot: Slot) -> u64
     ensures { result ≡ agreed_at table.now slot.0 }

@@ -25,7 +25,7 @@ pub mod turn;
 // What an event does to its slot: new numbers and at most one message, or a refusal that leaves all as it was.
 pub type Outcome = Result<(Room, Option<Message>), Refusal>;
 
-// An event of any kind that names a slot.
+// An event of any kind that names a slot. One match, plainer here than closures or a table of functions: the kinds are a closed enum.
 #[tactic(auto, unfolding(crate::specs::OnSlot::on_slot))]
 pub fn on_slot(turn: Turn) -> Outcome
     ensures { outcome_by_rules result ≡ on_slot turn.head turn.room turn.event }

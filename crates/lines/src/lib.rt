@@ -1,6 +1,7 @@
 // Lines of text: a record of seven decimal numbers is read from one line and written as one line, and numbers of
 // any count are written so. Relies on specs/Text, specs/Read and specs/Write, which the contracts cite, and on the
-// kit's `itoa` for a number's digits. Only read_record and write_record know that a record is seven numbers.
+// kit's `itoa` for a number's digits. A record is
+// seven numbers in read_record, write_record and LONGEST_RECORD alone.
 
 #![tactic(auto)]
 
@@ -141,7 +142,7 @@ fn measure(numbers: &[u64], out: &[u8]) -> Result<usize, ShortBuffer>
     Ok(out.len() - room)
 }
 
-// Puts a number's text before the place `end` of the buffer, and gives where it starts.
+// Puts a number's text before the place `end` of the buffer, and gives where it starts: by places, as `itoa` writes before one.
 #[tactic(auto, using(crate::proofs::Widths::text_is_decimal))]
 fn put_number(n: u64, out: &mut [u8], end: usize) -> usize
     requires room { length (number_text n) ≤ end }

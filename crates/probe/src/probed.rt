@@ -33,7 +33,7 @@ impl Probed {
         }
     }
 
-    // One operation with its six numbers. All but the making and setting put a line.
+    // One operation with its six numbers. All but the making and setting put a line. One match, as the operations are a closed enum.
     pub fn operate<W: Write + Drop>(
         &mut self,
         record: [u64; 7],

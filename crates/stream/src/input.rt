@@ -1,5 +1,6 @@
-// The lines of what is read, one after the other: `next_line` in any buffer and from any places, which so are parameters,
-// and `Input`, which owns them. Relies on calls for the end of a line. Cited by the programs' loops.
+// The lines of what is read, one after the other. `next_line` is public and takes any buffer and any places, so these are parameters there; `Input`
+// owns them. (A struct of lent buffers was tried: "a place behind a reference that is lent is used in a way that has no rule yet".)
+// Relies on calls for the end of a line. Cited by the programs' loops.
 ghost use Rattle.std.specs.Prelude.{◌≡◌, ◌+◌, ◌≤◌, length, IfOk, IfSome, OnOk, OnErr};
 ghost use Rattle.stream.specs.Places.{PlacedIn};
 ghost use Rattle.stream.specs.declared.TheConstants.{BUFFER_SIZE};
@@ -79,7 +80,7 @@ fn line_within(input: &[u8], from: usize, to: usize, most: usize) -> Option<usiz
     ensures there { IfSome result (λ n. from + n ≤ to) }
     ensures short { IfSome result (λ n. n ≤ most) }
 {
-    let stop = if to - from < most { to } else { from + most };
+    let stop = from + most.min(to - from);
     calls::line_length(&input[from..stop])
 }
 

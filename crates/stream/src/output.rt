@@ -1,5 +1,6 @@
-// What is to be written, gathered in a buffer: `make_room`, `flush` and `stop_at` for any sink, buffer and count, which so are parameters,
-// and `Output`, which owns them. Relies on lines for a line of numbers and on calls for that of a bad line. Cited by the programs' loops.
+// What is to be written, gathered in a buffer. `make_room`, `flush` and `stop_at` are public and take any sink, buffer and count, so these are parameters
+// there; `Output` owns them. (For a struct of lent buffers see input.rt.)
+// Relies on lines for a line of numbers and on calls for that of a bad line. Cited by the programs' loops.
 ghost use Rattle.std.specs.Prelude.{◌≡◌, ℕ, List, [], ◌∷◌, ◌+◌, ◌-◌, ◌<◌, ◌≤◌, ◌++◌, length, take, drop, min, IfOk, OnOk, OnErr, IsErrOf};
 ghost use Rattle.std.specs.Fn.{FnOnceReturnsAtMut};
 ghost use Rattle.lines.specs.Text.{line_text};
