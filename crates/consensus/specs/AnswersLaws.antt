@@ -12,32 +12,32 @@ use Rattle.consensus.specs.Answers.{Answer, Quiet, Sends, BadTable, BadEvent, No
 use Rattle.consensus.specs.Events.{propose, restart, kind_number, KindOf}
 
 -- the code's result for each answer of the rules
-result_for : Answer → Result (Option Message) Refusal
-result_for Quiet = Ok None
-result_for (Sends m) = Ok (Some m)
-result_for BadTable = Err refusal.BadTable
-result_for BadEvent = Err refusal.BadEvent
-result_for NotWellKept = Err refusal.NotWellKept
-result_for NotAwaited = Err refusal.NotAwaited
-result_for AlreadyAgreed = Err refusal.AlreadyAgreed
-result_for OtherAgreed = Err refusal.OtherAgreed
-result_for NoBallotLeft = Err refusal.NoBallotLeft
+result_of : Answer → Result (Option Message) Refusal
+result_of Quiet = Ok None
+result_of (Sends m) = Ok (Some m)
+result_of BadTable = Err refusal.BadTable
+result_of BadEvent = Err refusal.BadEvent
+result_of NotWellKept = Err refusal.NotWellKept
+result_of NotAwaited = Err refusal.NotAwaited
+result_of AlreadyAgreed = Err refusal.AlreadyAgreed
+result_of OtherAgreed = Err refusal.OtherAgreed
+result_of NoBallotLeft = Err refusal.NoBallotLeft
 
-result_back : (x : Result (Option Message) Refusal) → result_for (answer_by_rules x) ≡ x
-unfolding result_for
-result_back (Ok None) = refl
-result_back (Ok (Some m)) = refl
-result_back (Err refusal.BadTable) = refl
-result_back (Err refusal.BadEvent) = refl
-result_back (Err refusal.NotWellKept) = refl
-result_back (Err refusal.NotAwaited) = refl
-result_back (Err refusal.AlreadyAgreed) = refl
-result_back (Err refusal.OtherAgreed) = refl
-result_back (Err refusal.NoBallotLeft) = refl
+told : (x : Result (Option Message) Refusal) → result_of (answer_by_rules x) ≡ x
+unfolding result_of
+told (Ok None) = refl
+told (Ok (Some m)) = refl
+told (Err refusal.BadTable) = refl
+told (Err refusal.BadEvent) = refl
+told (Err refusal.NotWellKept) = refl
+told (Err refusal.NotAwaited) = refl
+told (Err refusal.AlreadyAgreed) = refl
+told (Err refusal.OtherAgreed) = refl
+told (Err refusal.NoBallotLeft) = refl
 
 -- no two results of the code are one answer of the rules
 pub answer_tells_result : (x y : Result (Option Message) Refusal) → answer_by_rules x ≡ answer_by_rules y → x ≡ y
-answer_tells_result x y same = sym (result_back x) ∙ ap result_for same ∙ result_back y
+answer_tells_result x y same = sym (told x) ∙ ap result_of same ∙ told y
 
 -- the kind of a number from 1 to 8
 kind_at : ℕ → Kind

@@ -58,8 +58,8 @@ abbrev pub event : ℕ → ℕ → ℕ → ℕ → ℕ → ℕ → Event
 event k s f b b₂ v = record { kind = k; slot = record { 0 = s }; from = f; ballot = ballot b; second = ballot b₂; value = v }
 
 -- the event of the six numbers of a list: kind, slot, from, ballot, second, value
-abbrev pub event_of : List ℕ → Event
-event_of n = event (get_or n 0 0) (get_or n 1 0) (get_or n 2 0) (get_or n 3 0) (get_or n 4 0) (get_or n 5 0)
+abbrev pub event_from : List ℕ → Event
+event_from n = event (get_or n 0 0) (get_or n 1 0) (get_or n 2 0) (get_or n 3 0) (get_or n 4 0) (get_or n 5 0)
 
 -- "The fields used by each kind form a constant table": slot, from, ballot, second, value
 abbrev pub used : List (List ℕ)

@@ -4,7 +4,7 @@
 // Cited by the step.
 ghost use Rattle.std.specs.Prelude.{◌≡◌, eqb, if◌then◌else◌, true, false, MatchOption};
 ghost use Rattle.consensus.specs.Answers.{event_numbers};
-ghost use Rattle.consensus.specs.Events.{event_of, of_kind, kind_number, second_ok, value_ok, maker_ok, fields_ok, event_ok};
+ghost use Rattle.consensus.specs.Events.{event_from, of_kind, kind_number, second_ok, value_ok, maker_ok, fields_ok, event_ok};
 
 use super::kept::{none_or_ballot, zero_with};
 use super::layout::SLOTS;
@@ -13,7 +13,7 @@ use ballots::{Ballot, Slot, is_ballot, maker_of};
 
 // The event of its six numbers: kind, slot, from, ballot, second, value.
 impl From<[u64; 6]> for Event {
-    ghost from_gives = { λ numbers event. event ≡ event_of numbers };
+    ghost from_gives = { λ numbers event. event ≡ event_from numbers };
 
     fn from(numbers: [u64; 6]) -> Event {
         let [kind, slot, from, ballot, second, value] = numbers;

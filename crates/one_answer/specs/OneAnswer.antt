@@ -12,7 +12,7 @@ use Rattle.consensus.specs.declared.Event.{Event}
 use Rattle.consensus.specs.declared.Message.{Message}
 use Rattle.consensus.specs.declared.kind.Kind.{Kind}
 use Rattle.consensus.specs.declared.refusal.Refusal.{Refusal}
-use Rattle.consensus.specs.Events.{kind_number, KindOf, event_of}
+use Rattle.consensus.specs.Events.{kind_number, KindOf, event_from}
 use Rattle.consensus.specs.Answers.{event_numbers, answer_number, answer_by_rules, refusal_by_rules, numbers_of}
 use Rattle.consensus.specs.AnswersLaws.{answer_tells_result, one_kind_of}
 use Rattle.consensus.specs.Step.{table_ok, agreed_at, step}
@@ -45,12 +45,13 @@ OneAnswer {A} Meets = (x y : A) → Meets x → Meets y → x ≡ y
 pub fixed : {A : Type 0} (d : A) → OneAnswer (λ (r : A). r ≡ d)
 fixed d x y is_x is_y = is_x ∙ sym is_y
 
+-- a contract on what is returned and a contract on the lent memory at exit
+both : {A B : Type 0} {P : A → Type 0} {Q : B → Type 0} → OneAnswer P → OneAnswer Q → OneAnswer (λ (r : A × B). P r.0 × Q r.1)
+both returned lent x y meets_x meets_y = let r = returned x.0 y.0 meets_x.0 meets_y.0 in let l = lent x.1 y.1 meets_x.1 meets_y.1 in λ i. (r i, l i)
+
 -- a contract that says which value it is and what the lent memory holds at exit
 pub both_fixed : {A B : Type 0} (a : A) (b : B) → OneAnswer (λ (r : A × B). (r.0 ≡ a) × (r.1 ≡ b))
-both_fixed a b x y meets_x meets_y =
-    let result = fixed a x.0 y.0 meets_x.0 meets_y.0 in
-    let lent = fixed b x.1 y.1 meets_x.1 meets_y.1 in
-    λ i. (result i, lent i)
+both_fixed a b = both {P = λ r. r ≡ a} {Q = λ r. r ≡ b} (fixed a) (fixed b)
 
 -- a contract that says which answer of the rules it is, where the rules tell any two of the code's answers apart
 pub fixed_by_rules : {A B : Type 0} (by_rules : A → B) → ((x y : A) → by_rules x ≡ by_rules y → x ≡ y) → (d : B) → OneAnswer (λ (r : A). by_rules r ≡ d)
@@ -60,10 +61,7 @@ fixed_by_rules by_rules tells d x y is_x is_y = tells x y (is_x ∙ sym is_y)
 pub both_fixed_by_rules :
     {A B C : Type 0} (by_rules : A → B) → ((x y : A) → by_rules x ≡ by_rules y → x ≡ y) → (d : B) (c : C) →
     OneAnswer (λ (r : A × C). (by_rules r.0 ≡ d) × (r.1 ≡ c))
-both_fixed_by_rules by_rules tells d c x y meets_x meets_y =
-    let result = fixed_by_rules by_rules tells d x.0 y.0 meets_x.0 meets_y.0 in
-    let lent = fixed c x.1 y.1 meets_x.1 meets_y.1 in
-    λ i. (result i, lent i)
+both_fixed_by_rules by_rules tells d c = both {P = λ r. by_rules r ≡ d} {Q = λ r. r ≡ c} (fixed_by_rules by_rules tells d) (fixed c)
 
 -- ---- ballots
 
@@ -108,8 +106,8 @@ pub refusal_number_has_one_answer : (refusal : Refusal) → OneAnswer (λ (r : �
 refusal_number_has_one_answer refusal = fixed (answer_number (refusal_by_rules refusal))
 
 -- an event from its six numbers
-pub event_has_one_answer : (numbers : List ℕ) → OneAnswer (λ (r : Event). r ≡ event_of numbers)
-event_has_one_answer numbers = fixed (event_of numbers)
+pub event_has_one_answer : (numbers : List ℕ) → OneAnswer (λ (r : Event). r ≡ event_from numbers)
+event_has_one_answer numbers = fixed (event_from numbers)
 
 -- the six numbers of an event
 pub event_numbers_has_one_answer : (event : Event) → OneAnswer (λ (r : List ℕ). r ≡ event_numbers event)
