@@ -1,6 +1,7 @@
-// Why the board says nothing of a link. Relies on specs/, which says which answer of the rules each refusal is.
-ghost use Rattle.std.specs.Prelude.{◌≡◌, Err};
+// Why the board says nothing of a link. Relies on specs/, which says which answer of the rules each refusal is, and what its text is.
+ghost use Rattle.std.specs.Prelude.{◌≡◌, Err, Some};
 ghost use Rattle.board.specs.Board.{answer_of, answer_by_rules};
+ghost use Rattle.board.specs.Texts.{refusal_text};
 
 use std::error::Error;
 use std::fmt;
@@ -22,6 +23,8 @@ impl From<BoardRefusal> for u64 {
 }
 
 impl fmt::Display for BoardRefusal {
+    ghost output = { λ refusal. Some (refusal_text refusal) };
+
     fn fmt<W: fmt::Write>(&self, f: &mut fmt::Formatter<W>) -> fmt::Result {
         f.write_str(match self {
             BoardRefusal::BadTable => "not a box's table",

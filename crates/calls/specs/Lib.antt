@@ -10,3 +10,4 @@ pub mod Tables
 pub mod TablesLaws
 pub mod Call
 pub mod CallLaws
+pub mod Texts

@@ -45,11 +45,13 @@ pub fn line_length(bytes: &[u8]) -> Option<usize>
     Some(end + 1)
 }
 
-// Where the first newline stands. A function of its own, since in `line_length` the proof does not follow the search.
+// Where the first newline stands. A function of its own, since in `line_length` the proof does not follow the search. By the kit's `memchr`, since
+// `position` takes two instructions more for each byte than a loop by hand.
+#[tactic(auto, using(crate::proofs::Newlines::first_is_position))]
 fn newline_at(bytes: &[u8]) -> Option<usize>
     ensures { result ≡ position (λ b. eqb b newline) bytes.now }
 {
-    bytes.iter().position(|b| *b == NEWLINE)
+    memchr::memchr(NEWLINE, bytes)
 }
 
 // Makes the tables fresh, in a place that has room for just those of 1 to 7 boxes. Any other stays as it was.

@@ -1,6 +1,7 @@
-// Why a call does nothing. Relies on specs/Call.antt, which gives each refusal its number.
-ghost use Rattle.std.specs.Prelude.{◌≡◌, Err};
+// Why a call does nothing. Relies on specs/Call.antt, which gives each refusal its number, and on specs/Texts.antt for its text.
+ghost use Rattle.std.specs.Prelude.{◌≡◌, Err, Some};
 ghost use Rattle.calls.specs.Call.{called_by_rules};
+ghost use Rattle.calls.specs.Texts.{refusal_text};
 ghost use Rattle.calls.specs.declared.refusal.CallRefusal.TheVariants.{BadLine, ShortBuffer};
 
 use std::error::Error;
@@ -40,6 +41,8 @@ impl From<lines::ShortBuffer> for CallRefusal {
 }
 
 impl fmt::Display for CallRefusal {
+    ghost output = { λ refusal. Some (refusal_text refusal) };
+
     fn fmt<W: fmt::Write>(&self, f: &mut fmt::Formatter<W>) -> fmt::Result {
         f.write_str(match self {
             CallRefusal::BadTables => "no place for the tables of 1 to 7 boxes",

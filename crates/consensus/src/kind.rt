@@ -1,6 +1,8 @@
-// The kinds of events. Relies on specs/Events.antt, which gives each its number. Cited by the event check and the step.
-ghost use Rattle.std.specs.Prelude.{◌≡◌};
+// The kinds of events. Relies on specs/Events.antt, which gives each its number, and on specs/Texts.antt for the text of a number that
+// no kind has. Cited by the event check and the step.
+ghost use Rattle.std.specs.Prelude.{◌≡◌, Some};
 ghost use Rattle.consensus.specs.Events.{kind_number, KindOf};
+ghost use Rattle.consensus.specs.Texts.{unknown_kind_text};
 
 use std::error::Error;
 use std::fmt;
@@ -52,6 +54,8 @@ impl TryFrom<u64> for Kind {
 }
 
 impl fmt::Display for UnknownKind {
+    ghost output = { λ unknown. Some (unknown_kind_text unknown) };
+
     fn fmt<W: fmt::Write>(&self, f: &mut fmt::Formatter<W>) -> fmt::Result {
         write!(f, "no kind of event has the number {}", self.0)
     }

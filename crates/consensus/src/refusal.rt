@@ -1,6 +1,7 @@
-// Why a step is refused. Relies on specs/Answers.antt, which says which answer of the rules each refusal is.
-ghost use Rattle.std.specs.Prelude.{◌≡◌};
+// Why a step is refused. Relies on specs/Answers.antt, which says which answer of the rules each refusal is, and on specs/Texts.antt for its text.
+ghost use Rattle.std.specs.Prelude.{◌≡◌, Some};
 ghost use Rattle.consensus.specs.Answers.{answer_number, refusal_by_rules};
+ghost use Rattle.consensus.specs.Texts.{refusal_text};
 
 use std::error::Error;
 use std::fmt;
@@ -27,6 +28,8 @@ impl From<Refusal> for u64 {
 }
 
 impl fmt::Display for Refusal {
+    ghost output = { λ refusal. Some (refusal_text refusal) };
+
     fn fmt<W: fmt::Write>(&self, f: &mut fmt::Formatter<W>) -> fmt::Result {
         f.write_str(match self {
             Refusal::BadTable => "not a box's table",

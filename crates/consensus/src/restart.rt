@@ -11,13 +11,19 @@ use super::layout::{SLOTS, head_of, put_room, room_at};
 use super::{Message, Refusal, Room, Round};
 use ballots::Slot;
 
-// Numbers 0 to 2 of every slot keep their rules.
+// Numbers 0 to 2 of every slot keep their rules. All are asked, and no branch stands between them: `all`, which stops at the first that doesn't,
+// took half as long again.
+#[tactic(auto, using(crate::proofs::Restarting::none_asked, crate::proofs::Restarting::one_more_asked))]
 fn all_saved_kept(table: &[u64]) -> bool
     requires { length table.now ≡ table_size }
     ensures { result ≡ all_saved_kept slots table.now }
 {
     let head = head_of(table);
-    (0..SLOTS).all(|s| saved_kept(head, room_at(table, Slot(s))))
+    let mut kept = true;
+    for s in 0..SLOTS {
+        kept &= saved_kept(head, room_at(table, Slot(s)));
+    }
+    kept
 }
 
 // What a restart leaves of a slot.

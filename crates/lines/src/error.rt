@@ -1,4 +1,6 @@
 // Why a line is not read or not written.
+ghost use Rattle.std.specs.Prelude.{Some, codes};
+
 use std::error::Error;
 use std::fmt;
 
@@ -11,6 +13,8 @@ pub struct BadLine;
 pub struct ShortBuffer;
 
 impl fmt::Display for BadLine {
+    ghost output = { λ _. Some (codes "the line is not a record's") };
+
     fn fmt<W: fmt::Write>(&self, f: &mut fmt::Formatter<W>) -> fmt::Result {
         write!(f, "the line is not a record's")
     }
@@ -19,6 +23,8 @@ impl fmt::Display for BadLine {
 impl Error for BadLine {}
 
 impl fmt::Display for ShortBuffer {
+    ghost output = { λ _. Some (codes "the buffer is shorter than the line") };
+
     fn fmt<W: fmt::Write>(&self, f: &mut fmt::Formatter<W>) -> fmt::Result {
         write!(f, "the buffer is shorter than the line")
     }

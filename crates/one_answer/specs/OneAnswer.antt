@@ -1,7 +1,7 @@
 -- One answer for each contract: two answers that both meet a public function's contract are equal.
--- Each line states the contract with the very definitions that the function's `ensures` cites; all are proved by one lemma.
+-- Each line states the contract with the very definitions that the function's `ensures` cites, or, of a trait's function, its law.
 -- Relies on the definitions that the contracts cite. For the reader: nothing cites it.
-use Rattle.std.specs.Prelude.{ℕ, ◌≡◌, Bool, Option, Result, Err, List, [], ◌∷◌}
+use Rattle.std.specs.Prelude.{ℕ, ◌≡◌, Bool, Option, Result, Err, List, [], ◌∷◌, codes}
 use Rattle.std.proofs.Common.{sym, ◌∙◌}
 use Rattle.std.specs.Int.Count.{ones}
 use Rattle.ballots.specs.declared.Ballot.{Ballot}
@@ -11,10 +11,12 @@ use Rattle.ballots.specs.Boxes.{holds_box, is_majority, with_box}
 use Rattle.consensus.specs.declared.Event.{Event}
 use Rattle.consensus.specs.declared.Message.{Message}
 use Rattle.consensus.specs.declared.kind.Kind.{Kind}
+use Rattle.consensus.specs.declared.kind.UnknownKind.{UnknownKind}
 use Rattle.consensus.specs.declared.refusal.Refusal.{Refusal}
 use Rattle.consensus.specs.Events.{kind_number, KindOf, event_from}
 use Rattle.consensus.specs.Answers.{event_numbers, answer_number, answer_by_rules, refusal_by_rules, numbers_of}
 use Rattle.consensus.specs.AnswersLaws.{answer_tells_result, one_kind_of}
+use Rattle.consensus.specs.Texts.{refusal_text, unknown_kind_text}
 use Rattle.consensus.specs.Step.{table_ok, agreed_at, step}
 use Rattle.lines.specs.declared.error.BadLine.{BadLine}
 use Rattle.lines.specs.declared.error.ShortBuffer.{ShortBuffer}
@@ -28,6 +30,7 @@ use Rattle.board.specs.declared.refusal.BoardRefusal.{BoardRefusal}
 use Rattle.board.specs.Command.{command_of}
 use Rattle.board.specs.Board.{applied, board_of, answer_of, answer_by_rules as board_answer_by_rules, numbers_of as board_numbers_of}
 use Rattle.board.specs.BoardLaws.{answer_tells_result as board_answer_tells_result}
+use Rattle.board.specs.Texts.{refusal_text as board_refusal_text}
 use Rattle.calls.specs.declared.refusal.CallRefusal.{CallRefusal}
 use Rattle.calls.specs.declared.refusal.CallRefusal.TheVariants as call_refusal
 use Rattle.calls.specs.UnlessZero.{unless_zero}
@@ -36,6 +39,7 @@ use Rattle.calls.specs.FirstLine.{line_length}
 use Rattle.calls.specs.Tables.{fresh_tables}
 use Rattle.calls.specs.Call.{bad_line, call, called_by_rules}
 use Rattle.calls.specs.CallLaws.{called_tells_result}
+use Rattle.calls.specs.Texts.{refusal_text as call_refusal_text}
 
 -- whatever meets the contract is one and the same
 abbrev pub OneAnswer : {A : Type 0} → (A → Type 0) → Type 0
@@ -105,6 +109,14 @@ kind_number_has_one_answer kind = fixed (kind_number kind)
 pub refusal_number_has_one_answer : (refusal : Refusal) → OneAnswer (λ (r : ℕ). r ≡ answer_number (refusal_by_rules refusal))
 refusal_number_has_one_answer refusal = fixed (answer_number (refusal_by_rules refusal))
 
+-- the text of a refusal
+pub refusal_text_has_one_answer : (refusal : Refusal) → OneAnswer (λ (r : List ℕ). r ≡ refusal_text refusal)
+refusal_text_has_one_answer refusal = fixed (refusal_text refusal)
+
+-- the text of a number that no kind has
+pub unknown_kind_text_has_one_answer : (unknown : UnknownKind) → OneAnswer (λ (r : List ℕ). r ≡ unknown_kind_text unknown)
+unknown_kind_text_has_one_answer unknown = fixed (unknown_kind_text unknown)
+
 -- an event from its six numbers
 pub event_has_one_answer : (numbers : List ℕ) → OneAnswer (λ (r : Event). r ≡ event_from numbers)
 event_has_one_answer numbers = fixed (event_from numbers)
@@ -126,6 +138,14 @@ pub step_has_one_answer :
 step_has_one_answer table event = both_fixed_by_rules answer_by_rules answer_tells_result (step table event).answer (step table event).table
 
 -- ---- lines
+
+-- the text of a line that is no record's
+pub bad_line_text_has_one_answer : (line : BadLine) → OneAnswer (λ (r : List ℕ). r ≡ codes "the line is not a record's")
+bad_line_text_has_one_answer line = fixed (codes "the line is not a record's")
+
+-- the text of a buffer that is too short
+pub short_buffer_text_has_one_answer : (buffer : ShortBuffer) → OneAnswer (λ (r : List ℕ). r ≡ codes "the buffer is shorter than the line")
+short_buffer_text_has_one_answer buffer = fixed (codes "the buffer is shorter than the line")
 
 pub read_record_has_one_answer : (line : List ℕ) → OneAnswer (λ (r : Result (List ℕ) BadLine). reading_by_rules r ≡ read_record line)
 read_record_has_one_answer line = fixed_by_rules reading_by_rules reading_tells_result (read_record line)
@@ -152,6 +172,10 @@ board_has_one_answer table link = fixed_by_rules board_answer_by_rules board_ans
 pub board_refusal_number_has_one_answer : (refusal : BoardRefusal) → OneAnswer (λ (r : ℕ). r ≡ answer_of (board_answer_by_rules (Err refusal)))
 board_refusal_number_has_one_answer refusal = fixed (answer_of (board_answer_by_rules (Err refusal)))
 
+-- the text of a refusal
+pub board_refusal_text_has_one_answer : (refusal : BoardRefusal) → OneAnswer (λ (r : List ℕ). r ≡ board_refusal_text refusal)
+board_refusal_text_has_one_answer refusal = fixed (board_refusal_text refusal)
+
 -- `board::numbers_of`
 pub board_numbers_of_has_one_answer : (answer : Result Entry BoardRefusal) → OneAnswer (λ (r : List ℕ). r ≡ board_numbers_of (board_answer_by_rules answer))
 board_numbers_of_has_one_answer answer = fixed (board_numbers_of (board_answer_by_rules answer))
@@ -169,6 +193,10 @@ refused_buffer_has_one_answer buffer = fixed call_refusal.ShortBuffer
 -- the number of a refusal
 pub call_refusal_number_has_one_answer : (refusal : CallRefusal) → OneAnswer (λ (r : ℕ). r ≡ (called_by_rules (Err refusal)).answer)
 call_refusal_number_has_one_answer refusal = fixed (called_by_rules (Err refusal)).answer
+
+-- the text of a refusal
+pub call_refusal_text_has_one_answer : (refusal : CallRefusal) → OneAnswer (λ (r : List ℕ). r ≡ call_refusal_text refusal)
+call_refusal_text_has_one_answer refusal = fixed (call_refusal_text refusal)
 
 pub boxes_of_has_one_answer : (line : List ℕ) → OneAnswer (λ (r : Option ℕ). r ≡ unless_zero (boxes_of line))
 boxes_of_has_one_answer line = fixed (unless_zero (boxes_of line))

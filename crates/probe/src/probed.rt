@@ -71,9 +71,10 @@ impl Probed {
 
     // Five bytes of the buffer from a place on, where it has such places.
     fn set_bytes(&mut self, place: u64, values: [u64; 5]) {
-        let at = place as usize;
-        for (byte, value) in self.bytes.iter_mut().skip(at).zip(values) {
-            *byte = (value % 256) as u8;
+        let at = (place as usize).min(MOST_BYTES);
+        let bytes = &mut self.bytes[..];
+        for (byte, value) in bytes[at..].iter_mut().zip(&values) {
+            *byte = (*value % 256) as u8;
         }
     }
 

@@ -12,13 +12,16 @@ use std::io;
 use std::io::{Read, Write};
 use stream::{Fault, Input, Output};
 
+#[cfg(test)]
+mod tests; // tests.rt: what is lent, and what is written where a read or a write fails
+
 // The tables of as many boxes as there can be.
 const ALL_TABLES: usize = MAX_BOXES as usize * TABLE_SIZE;
 
 const LONGEST_HEADER: usize = 8;
 
 // Replays what is read onto what is written: standard input onto standard output. An error is that of a read or a write.
-pub fn replay_input(source: impl Read + Drop, sink: impl Write + Drop) -> io::Result<()> {
+pub fn replay_input(source: &mut impl Read, sink: &mut impl Write) -> io::Result<()> {
     let mut input = Input::new(source);
     let mut output = Output::new(sink);
     let mut tables = [0u64; ALL_TABLES];
@@ -27,7 +30,8 @@ pub fn replay_input(source: impl Read + Drop, sink: impl Write + Drop) -> io::Re
             let size = boxes as usize * TABLE_SIZE;
             records(&mut input, &mut output, boxes, &mut tables[..size])
         }
-        Err(fault) => output.end_at(1, fault),
+        Err(Fault::BadLine) => output.stop_at(1),
+        Err(Fault::Io(error)) => Err(error),
     }
 }
 

@@ -1,6 +1,7 @@
 // Why a line could not be had, or why nothing more can be done with it.
 ghost use Rattle.std.specs.Prelude.{◌≡◌};
 ghost use Rattle.stream.specs.declared.fault.Fault.TheVariants.{BadLine, Io};
+ghost use Rattle.stream.specs.Texts.{fault_text};
 
 use std::error::Error;
 use std::{fmt, io};
@@ -38,6 +39,8 @@ impl From<calls::CallRefusal> for Fault {
 }
 
 impl fmt::Display for Fault {
+    ghost output = { fault_text };
+
     fn fmt<W: fmt::Write>(&self, f: &mut fmt::Formatter<W>) -> fmt::Result {
         match self {
             Fault::BadLine => write!(f, "bad line"),

@@ -135,7 +135,8 @@ impl<R: Read + Drop> Input<R> {
     }
 
     // Calls `each` on every line of at most `most` bytes, where the next one is line `first`, and writes the output out at the end.
-    // The first bad line, and the first read or write that fails, is the end too. No input has as many lines as the numbers go.
+    // The first bad line, and the first read or write that fails, is the end too: where a read fails, what was put goes out before its error;
+    // where a read or write of `each` fails, nothing more is written. No input has as many lines as the numbers go.
     pub fn each_line<W: Write + Drop, F>(
         &mut self,
         output: &mut Output<W>,
@@ -150,11 +151,11 @@ impl<R: Read + Drop> Input<R> {
     {
         for number in first..u64::MAX {
             match self.next_line(most) {
-                Ok(Some(line)) => {
-                    if let Err(fault) = each(line, output) {
-                        return output.end_at(number, fault);
-                    }
-                }
+                Ok(Some(line)) => match each(line, output) {
+                    Ok(()) => {}
+                    Err(Fault::BadLine) => return output.stop_at(number),
+                    Err(Fault::Io(error)) => return Err(error),
+                },
                 Ok(None) => return output.flush(),
                 Err(fault) => return output.end_at(number, fault),
             }

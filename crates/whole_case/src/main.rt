@@ -4,5 +4,5 @@
 use std::io;
 
 fn main(rt: HostRuntime) -> io::Result<()> {
-    replaying::replay_input(rt.stdin(), rt.stdout())
+    replaying::replay_input(&mut rt.stdin(), &mut rt.stdout())
 }
