@@ -2,7 +2,7 @@ pub mod Command
 pub mod CommandLaws
 pub mod Board
 pub mod BoardLaws
-pub mod Texts
+pub mod ErrorTexts
 pub mod RunLaws
 pub mod PrefixLaws
 pub mod OwnerLaws

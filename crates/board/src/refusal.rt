@@ -1,7 +1,7 @@
 // Why the board says nothing of a link. Relies on specs/, which says which answer of the rules each refusal is, and what its text is.
 ghost use Rattle.std.specs.Prelude.{◌≡◌, Err, Some};
 ghost use Rattle.board.specs.Board.{answer_of, answer_by_rules};
-ghost use Rattle.board.specs.Texts.{refusal_text};
+ghost use Rattle.board.specs.ErrorTexts.{refusal_text};
 
 use std::error::Error;
 use std::fmt;

@@ -1,11 +1,11 @@
 -- How long the first line is by the place of the first newline, and which place the kit's search finds.
--- Relies on specs/FirstLine and on memchr. Cited by the proofs of line_length and newline_at.
-use Rattle.std.specs.Prelude.{ℕ, zero, suc, ◌+◌, ◌≡◌, refl, Bool, true, false, ◌<◌, ◌≤◌, List, [], ◌∷◌, Option, Some, None, not, eqb, ltb, length, get_or, position, if◌then◌else◌}
+-- Relies on specs/FirstLine and on memchr. Cited by the proof of line_length.
+use Rattle.std.specs.Prelude.{ℕ, zero, suc, ◌+◌, ◌≡◌, refl, Bool, true, false, ◌<◌, ◌≤◌, List, [], ◌∷◌, Option, Some, None, not, eqb, ltb, length, position, if◌then◌else◌}
 use Prim.Native.Nat.compare
 use Rattle.std.specs.List.{position_or_len}
 use Rattle.std.specs.Option.{option_map}
 use Rattle.std.proofs.Common.{add-one, one-add, sym, ap, ◌∙◌, arith, lt-ltb}
-use Rattle.std.proofs.lemmas.Bool.{le-ltb}
+use Rattle.std.proofs.lemmas.Bool.{le-ltb, false_from_ne_true}
 use Rattle.std.proofs.lemmas.List.Sums.{position_or_len_is}
 use Rattle.memchr.specs.Find.{Nowhere, Passes, IsFirstByte, is_byte}
 use Rattle.lines.specs.Text.{newline}
@@ -45,25 +45,24 @@ by_place (b ∷ bs) = by_first (by_place bs) (eqb b newline)
     by_first later true = rw (lt-ltb 0 (suc (length bs)) (omega arith))
     by_first later false = one_longer (line_length bs) ∙ ap (option_map suc) later ∙ rw one-add (one_later place (length bs))
 
-module _ (bytes : List ℕ) where
-  pub ends_at : (end : ℕ) → position (λ b. eqb b newline) bytes ≡ Some end → Some (end + 1) ≡ unless_zero (line_length bytes)
-  ends_at end at = sym (by_place bytes ∙ ap (option_map suc) at ∙ ap Some (sym (add-one end)))
-
-  pub no_end : position (λ b. eqb b newline) bytes ≡ None → None ≡ unless_zero (line_length bytes)
-  no_end none = sym (by_place bytes ∙ ap (option_map suc) none)
-
 -- no byte before k is a newline, and the one at k is, where there is one
 place_is :
     (bytes : List ℕ) (k : ℕ) → k ≤ length bytes → Nowhere (Passes (is_byte newline) bytes) 0 k →
     (k < length bytes → Passes (is_byte newline) bytes k) → position_or_len (λ b. eqb b newline) bytes ≡ k
 place_is bytes k within before here =
-    position_or_len_is (λ b. eqb b newline) bytes k 0 within (λ j below. other (eqb (get_or bytes j 0) newline) (before j (omega arith) below)) here
-  where
-    other : (b : Bool) → (b ≡ true → ⊥) → b ≡ false
-    other true never = absurd (never refl)
-    other false never = refl
+    position_or_len_is (λ b. eqb b newline) bytes k 0 within (λ j below. false_from_ne_true _ (before j (omega arith) below)) here
 
-pub first_is_position : (bytes : List ℕ) (r : Option ℕ) → IsFirstByte (is_byte newline) bytes r → r ≡ newline_at bytes
+first_is_position : (bytes : List ℕ) (r : Option ℕ) → IsFirstByte (is_byte newline) bytes r → r ≡ newline_at bytes
 first_is_position bytes None none =
     rw (place_is bytes (length bytes) (omega arith) none (λ below. absurd (omega (arith, below))), le-ltb (length bytes) (length bytes) (omega arith))
 first_is_position bytes (Some k) first = rw (place_is bytes k (omega (arith, first.0.high)) first.0.before (λ below. first.1), lt-ltb k (length bytes) first.0.high)
+
+module _ (bytes : List ℕ) where
+  pub ends_at : (end : ℕ) → IsFirstByte (is_byte newline) bytes (Some end) → Some (end + 1) ≡ unless_zero (line_length bytes)
+  ends_at end first = sym (by_place bytes ∙ ap (option_map suc) (sym (first_is_position bytes (Some end) first)) ∙ ap Some (sym (add-one end)))
+
+  pub no_end : IsFirstByte (is_byte newline) bytes None → None ≡ unless_zero (line_length bytes)
+  no_end none = sym (by_place bytes ∙ ap (option_map suc) (sym (first_is_position bytes None none)))
+
+  pub end_within : (end : ℕ) → IsFirstByte (is_byte newline) bytes (Some end) → end < length bytes
+  end_within end first = first.0.high

@@ -1,5 +1,5 @@
 -- The definitions that the contracts cite, and beside them their laws.
--- UnlessZero, Header, FirstLine, Tables and Call are what a reader must believe.
+-- UnlessZero, Header, FirstLine, Tables, Call and ErrorTexts are what a reader must believe.
 pub mod UnlessZero
 pub mod UnlessZeroLaws
 pub mod Header
@@ -10,4 +10,4 @@ pub mod Tables
 pub mod TablesLaws
 pub mod Call
 pub mod CallLaws
-pub mod Texts
+pub mod ErrorTexts

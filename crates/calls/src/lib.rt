@@ -3,9 +3,8 @@
 // The count of boxes and the tables come as two, since the public functions take any count and any slice, and refuse what doesn't fit.
 #![tactic(auto)]
 
-ghost use Rattle.std.specs.Prelude.{◌≡◌, [], ◌∷◌, ◌*◌, ◌≤◌, eqb, length, position};
+ghost use Rattle.std.specs.Prelude.{◌≡◌, [], ◌∷◌, ◌*◌, ◌≤◌, length};
 ghost use Rattle.ballots.specs.Ballot.{max_boxes};
-ghost use Rattle.lines.specs.Text.{newline};
 ghost use Rattle.lines.specs.Write.{written_by_rules, written_record, written_buffer};
 ghost use Rattle.consensus.specs.Layout.{table_size, fresh};
 ghost use Rattle.consensus.specs.Answers.{answer_by_rules, numbers_of};
@@ -36,22 +35,14 @@ pub fn boxes_of(line: &[u8]) -> Option<u64>
     }
 }
 
-// The length of the first line of some bytes, its newline included.
+// The length of the first line of some bytes, its newline included. By the kit's `memchr`: `position` takes two instructions more for each byte
+// than a loop by hand.
 #[tactic(auto, using(crate::proofs::Sets::line_length))]
 pub fn line_length(bytes: &[u8]) -> Option<usize>
     ensures { result ≡ unless_zero (line_length bytes.now) }
 {
-    let end = newline_at(bytes)?;
+    let end = memchr::memchr(NEWLINE, bytes)?;
     Some(end + 1)
-}
-
-// Where the first newline stands. A function of its own, since in `line_length` the proof does not follow the search. By the kit's `memchr`, since
-// `position` takes two instructions more for each byte than a loop by hand.
-#[tactic(auto, using(crate::proofs::Newlines::first_is_position))]
-fn newline_at(bytes: &[u8]) -> Option<usize>
-    ensures { result ≡ position (λ b. eqb b newline) bytes.now }
-{
-    memchr::memchr(NEWLINE, bytes)
 }
 
 // Makes the tables fresh, in a place that has room for just those of 1 to 7 boxes. Any other stays as it was.

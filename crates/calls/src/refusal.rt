@@ -1,7 +1,7 @@
-// Why a call does nothing. Relies on specs/Call.antt, which gives each refusal its number, and on specs/Texts.antt for its text.
+// Why a call does nothing. Relies on specs/Call.antt, which gives each refusal its number, and on specs/ErrorTexts.antt for its text.
 ghost use Rattle.std.specs.Prelude.{◌≡◌, Err, Some};
 ghost use Rattle.calls.specs.Call.{called_by_rules};
-ghost use Rattle.calls.specs.Texts.{refusal_text};
+ghost use Rattle.calls.specs.ErrorTexts.{refusal_text};
 ghost use Rattle.calls.specs.declared.refusal.CallRefusal.TheVariants.{BadLine, ShortBuffer};
 
 use std::error::Error;

@@ -5,7 +5,7 @@ pub mod WellKept
 pub mod Events
 pub mod Answers
 pub mod AnswersLaws
-pub mod Texts
+pub mod ErrorTexts
 pub mod OnSlot
 pub mod Step
 pub mod StepLaws

@@ -1,8 +1,8 @@
-// The kinds of events. Relies on specs/Events.antt, which gives each its number, and on specs/Texts.antt for the text of a number that
+// The kinds of events. Relies on specs/Events.antt, which gives each its number, and on specs/ErrorTexts.antt for the text of a number that
 // no kind has. Cited by the event check and the step.
 ghost use Rattle.std.specs.Prelude.{◌≡◌, Some};
 ghost use Rattle.consensus.specs.Events.{kind_number, KindOf};
-ghost use Rattle.consensus.specs.Texts.{unknown_kind_text};
+ghost use Rattle.consensus.specs.ErrorTexts.{unknown_kind_text};
 
 use std::error::Error;
 use std::fmt;

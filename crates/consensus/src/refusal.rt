@@ -1,7 +1,7 @@
-// Why a step is refused. Relies on specs/Answers.antt, which says which answer of the rules each refusal is, and on specs/Texts.antt for its text.
+// Why a step is refused. Relies on specs/Answers.antt, which says which answer of the rules each refusal is, and on specs/ErrorTexts.antt for its text.
 ghost use Rattle.std.specs.Prelude.{◌≡◌, Some};
 ghost use Rattle.consensus.specs.Answers.{answer_number, refusal_by_rules};
-ghost use Rattle.consensus.specs.Texts.{refusal_text};
+ghost use Rattle.consensus.specs.ErrorTexts.{refusal_text};
 
 use std::error::Error;
 use std::fmt;

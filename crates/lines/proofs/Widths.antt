@@ -1,6 +1,6 @@
 -- The count of a number's digits, from the powers of ten around it; its text as the library's `decimal`, and of one digit before a place.
 -- Relies on TextLaws. Cited by the proofs of width and put_number.
-use Rattle.std.proofs.Common.{ℕ, zero, suc, ◌+◌, ◌*◌, ◌/◌, ◌^◌, ◌<◌, ◌≤◌, ◌≡◌, List, [], ◌∷◌, ◌++◌, ◌-◌, length, drop, set, ◌∙◌, arith, pow-suc, lt-ltb, le-ltb}
+use Rattle.std.proofs.Common.{ℕ, zero, suc, ◌+◌, ◌*◌, ◌/◌, ◌^◌, ◌<◌, ◌≤◌, ◌≡◌, List, ◌++◌, ◌-◌, length, drop, set, ◌∙◌, arith, pow-suc, lt-ltb, le-ltb}
 use Rattle.std.proofs.lemmas.List.{drop-set}
 use Rattle.std.proofs.lemmas.Fmt.{AppendsLastDigit, decimal_from_appends, length-decimal-le}
 use Rattle.std.specs.Fmt.{decimal}

@@ -1,5 +1,5 @@
 -- The definitions that the contracts cite, and beside them their laws.
--- Text, Read and Write are what a reader must believe.
+-- Text, Read, Write and ErrorTexts are what a reader must believe.
 pub mod Text
 pub mod Read
 pub mod Write
@@ -9,4 +9,5 @@ pub mod DigitLaws
 pub mod ReadLaws
 pub mod RecordLaws
 pub mod WriteLaws
+pub mod ErrorTexts
 pub mod Cases

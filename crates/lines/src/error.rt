@@ -1,5 +1,6 @@
-// Why a line is not read or not written.
-ghost use Rattle.std.specs.Prelude.{Some, codes};
+// Why a line is not read or not written. Relies on specs/ErrorTexts.antt for the texts.
+ghost use Rattle.std.specs.Prelude.{Some};
+ghost use Rattle.lines.specs.ErrorTexts.{bad_line_text, short_buffer_text};
 
 use std::error::Error;
 use std::fmt;
@@ -13,7 +14,7 @@ pub struct BadLine;
 pub struct ShortBuffer;
 
 impl fmt::Display for BadLine {
-    ghost output = { λ _. Some (codes "the line is not a record's") };
+    ghost output = { λ _. Some bad_line_text };
 
     fn fmt<W: fmt::Write>(&self, f: &mut fmt::Formatter<W>) -> fmt::Result {
         write!(f, "the line is not a record's")
@@ -23,7 +24,7 @@ impl fmt::Display for BadLine {
 impl Error for BadLine {}
 
 impl fmt::Display for ShortBuffer {
-    ghost output = { λ _. Some (codes "the buffer is shorter than the line") };
+    ghost output = { λ _. Some short_buffer_text };
 
     fn fmt<W: fmt::Write>(&self, f: &mut fmt::Formatter<W>) -> fmt::Result {
         write!(f, "the buffer is shorter than the line")

@@ -1,7 +1,7 @@
 -- One answer for each contract: two answers that both meet a public function's contract are equal.
 -- Each line states the contract with the very definitions that the function's `ensures` cites, or, of a trait's function, its law.
 -- Relies on the definitions that the contracts cite. For the reader: nothing cites it.
-use Rattle.std.specs.Prelude.{ℕ, ◌≡◌, Bool, Option, Result, Err, List, [], ◌∷◌, codes}
+use Rattle.std.specs.Prelude.{ℕ, ◌≡◌, Bool, Option, Result, Err, List, [], ◌∷◌}
 use Rattle.std.proofs.Common.{sym, ◌∙◌}
 use Rattle.std.specs.Int.Count.{ones}
 use Rattle.ballots.specs.declared.Ballot.{Ballot}
@@ -16,10 +16,11 @@ use Rattle.consensus.specs.declared.refusal.Refusal.{Refusal}
 use Rattle.consensus.specs.Events.{kind_number, KindOf, event_from}
 use Rattle.consensus.specs.Answers.{event_numbers, answer_number, answer_by_rules, refusal_by_rules, numbers_of}
 use Rattle.consensus.specs.AnswersLaws.{answer_tells_result, one_kind_of}
-use Rattle.consensus.specs.Texts.{refusal_text, unknown_kind_text}
+use Rattle.consensus.specs.ErrorTexts.{refusal_text, unknown_kind_text}
 use Rattle.consensus.specs.Step.{table_ok, agreed_at, step}
 use Rattle.lines.specs.declared.error.BadLine.{BadLine}
 use Rattle.lines.specs.declared.error.ShortBuffer.{ShortBuffer}
+use Rattle.lines.specs.ErrorTexts.{bad_line_text, short_buffer_text}
 use Rattle.lines.specs.Read.{read_record, reading_by_rules}
 use Rattle.lines.specs.RecordLaws.{reading_tells_result}
 use Rattle.lines.specs.Write.{written_record, written_buffer, written_by_rules}
@@ -30,7 +31,7 @@ use Rattle.board.specs.declared.refusal.BoardRefusal.{BoardRefusal}
 use Rattle.board.specs.Command.{command_of}
 use Rattle.board.specs.Board.{applied, board_of, answer_of, answer_by_rules as board_answer_by_rules, numbers_of as board_numbers_of}
 use Rattle.board.specs.BoardLaws.{answer_tells_result as board_answer_tells_result}
-use Rattle.board.specs.Texts.{refusal_text as board_refusal_text}
+use Rattle.board.specs.ErrorTexts.{refusal_text as board_refusal_text}
 use Rattle.calls.specs.declared.refusal.CallRefusal.{CallRefusal}
 use Rattle.calls.specs.declared.refusal.CallRefusal.TheVariants as call_refusal
 use Rattle.calls.specs.UnlessZero.{unless_zero}
@@ -39,7 +40,7 @@ use Rattle.calls.specs.FirstLine.{line_length}
 use Rattle.calls.specs.Tables.{fresh_tables}
 use Rattle.calls.specs.Call.{bad_line, call, called_by_rules}
 use Rattle.calls.specs.CallLaws.{called_tells_result}
-use Rattle.calls.specs.Texts.{refusal_text as call_refusal_text}
+use Rattle.calls.specs.ErrorTexts.{refusal_text as call_refusal_text}
 
 -- whatever meets the contract is one and the same
 abbrev pub OneAnswer : {A : Type 0} → (A → Type 0) → Type 0
@@ -140,12 +141,12 @@ step_has_one_answer table event = both_fixed_by_rules answer_by_rules answer_tel
 -- ---- lines
 
 -- the text of a line that is no record's
-pub bad_line_text_has_one_answer : (line : BadLine) → OneAnswer (λ (r : List ℕ). r ≡ codes "the line is not a record's")
-bad_line_text_has_one_answer line = fixed (codes "the line is not a record's")
+pub bad_line_text_has_one_answer : (line : BadLine) → OneAnswer (λ (r : List ℕ). r ≡ bad_line_text)
+bad_line_text_has_one_answer line = fixed bad_line_text
 
 -- the text of a buffer that is too short
-pub short_buffer_text_has_one_answer : (buffer : ShortBuffer) → OneAnswer (λ (r : List ℕ). r ≡ codes "the buffer is shorter than the line")
-short_buffer_text_has_one_answer buffer = fixed (codes "the buffer is shorter than the line")
+pub short_buffer_text_has_one_answer : (buffer : ShortBuffer) → OneAnswer (λ (r : List ℕ). r ≡ short_buffer_text)
+short_buffer_text_has_one_answer buffer = fixed short_buffer_text
 
 pub read_record_has_one_answer : (line : List ℕ) → OneAnswer (λ (r : Result (List ℕ) BadLine). reading_by_rules r ≡ read_record line)
 read_record_has_one_answer line = fixed_by_rules reading_by_rules reading_tells_result (read_record line)

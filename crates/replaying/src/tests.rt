@@ -79,7 +79,7 @@ fn log_of(records: usize, fails_at: usize) -> Log {
     }
 }
 
-fn fails_at(call: usize) -> Counted {
+fn sink_failing_at(call: usize) -> Counted {
     Counted {
         bytes: 0,
         calls: 0,
@@ -94,7 +94,7 @@ fn twice<R: Read, W: Write>(source: &mut R, sink: &mut W) -> io::Result<()> {
 
 #[test]
 fn lends_its_reader_and_writer(rt: HostRuntime) -> Result<(), Fail> {
-    let mut sink = fails_at(NEVER);
+    let mut sink = sink_failing_at(NEVER);
     twice(&mut log_of(1, NEVER), &mut sink)?;
     assert_eq!(rt; sink.bytes, COLLECT.len() + BAD_LINE.len());
     Ok(())
@@ -103,7 +103,7 @@ fn lends_its_reader_and_writer(rt: HostRuntime) -> Result<(), Fail> {
 // The answers of so many records do not fit into the buffer.
 #[test]
 fn writes_nothing_after_a_failed_write(rt: HostRuntime) {
-    let mut sink = fails_at(1);
+    let mut sink = sink_failing_at(1);
     let told = replay_input(&mut log_of(5000, NEVER), &mut sink).map_err(|e| e.kind());
     assert_eq!(rt; told, Err(ErrorKind::BrokenPipe));
     assert_eq!(rt; sink.calls, 1);
@@ -111,7 +111,7 @@ fn writes_nothing_after_a_failed_write(rt: HostRuntime) {
 
 #[test]
 fn writes_nothing_where_the_header_cannot_be_read(rt: HostRuntime) {
-    let mut sink = fails_at(1);
+    let mut sink = sink_failing_at(1);
     let told = replay_input(&mut log_of(0, 0), &mut sink).map_err(|e| e.kind());
     assert_eq!(rt; told, Err(ErrorKind::TimedOut));
     assert_eq!(rt; sink.calls, 0);
@@ -119,7 +119,7 @@ fn writes_nothing_where_the_header_cannot_be_read(rt: HostRuntime) {
 
 #[test]
 fn writes_the_answers_before_a_failed_read(rt: HostRuntime) {
-    let mut sink = fails_at(NEVER);
+    let mut sink = sink_failing_at(NEVER);
     let told = replay_input(&mut log_of(1, 2), &mut sink).map_err(|e| e.kind());
     assert_eq!(rt; told, Err(ErrorKind::TimedOut));
     assert_eq!(rt; sink.bytes, COLLECT.len());

@@ -5,4 +5,4 @@ pub mod PlacesLaws
 pub mod PutOut
 pub mod StopLine
 pub mod StopLineLaws
-pub mod Texts
+pub mod ErrorTexts

@@ -1,7 +1,7 @@
 // Why a line could not be had, or why nothing more can be done with it.
 ghost use Rattle.std.specs.Prelude.{◌≡◌};
 ghost use Rattle.stream.specs.declared.fault.Fault.TheVariants.{BadLine, Io};
-ghost use Rattle.stream.specs.Texts.{fault_text};
+ghost use Rattle.stream.specs.ErrorTexts.{fault_text};
 
 use std::error::Error;
 use std::{fmt, io};
